@@ -70,7 +70,6 @@ for name, content in {
         "twice": ["VARDESC ups.status a", "VARDESC ups.status b"],
         "monitors": ["[mon]", "password = pass", "upsmon secondary"],
         "login": ["up su", "open 192.0.2.1", *(f"client 1 {line}" for line in ("USERNAME mon", "PASSWORD pass", "LOGIN bay-1", "GET DESC bay-1 ups.status")), "took 1 all"],
-        "old": ["up su", "driver su DATAOK", "driver su DUMPDONE", "tick 4", "open 192.0.2.1", "client 1 GET VAR su ups.status", "took 1 all"],
         "bad": ["up su", "up", "worse"]}.items():  # fmt: skip
     BENCH.file(name, lines(content))
 TWO_DRIVERS = sent("driver bay-1", b"") + NO_DRIVER
@@ -79,20 +78,18 @@ ENDS = [
     ("--ups two.conf --users monitors --vars texts login", 0, sent("client 1", b"OK\nOK\nOK\n" + DESCRIBED) + TWO_DRIVERS, b""),
     ("login --vars=texts --ups=two.conf", 0, sent("client 1", b"OK\nOK\nERR ACCESS-DENIED\n" + DESCRIBED) + TWO_DRIVERS, b""),
     ("login", 0, sent("client 1", b"OK\nOK\nERR ACCESS-DENIED\nERR UNKNOWN-UPS\n") + NO_DRIVER, b""),
-    ("old", 0, sent("client 1", b"ERR VAR-NOT-SUPPORTED\n") + NO_DRIVER, b""),
-    ("--maxage 3 old", 0, sent("client 1", b"ERR DATA-STALE\n") + NO_DRIVER, b""),
     ("--vars absent --ups key.conf login", 1, b"", b"upsd: key.conf:4: cause 5"),
     ("bad --vars twice --ups two.conf", 1, b"", b"upsd: twice:2: cause 4"),
     ("--ups two.conf --vars texts absent", 1, b"", b"upsd: absent: cannot read"),
     ("--ups . login", 1, b"", b"upsd: .: cannot read"),
     ("--ups two.conf ./bad", 1, b"", b"upsd: ./bad:2: bad event"),
 ]  # fmt: skip
-WRONG_WORDS = ["", "replay --ups two.conf", "replay --maxage 2 login", "replay login --ups", "replay --ups two.conf --ups two.conf login",
+WRONG_WORDS = ["", "replay --ups two.conf", "replay --maxage 15 login", "replay login --ups", "replay --ups two.conf --ups two.conf login",
                "replay login login", "play login"]  # fmt: skip
 HELP = {
     "--help": ["serve", "replay"],
     "serve --help": ["--ups <F>", "--users <F>", "--vars <F>", "--ids <F>", "--listen <A:P>", "127.0.0.1:3493", "--maxage <N>", "--record <F>", "--record-limit <N>", "cause N:", "1 malformed line,", "6 bad value"],
-    "replay --help": ["<SCRIPT>", "--ups <F>", "--users <F>", "--vars <F>", "--maxage <N>"],
+    "replay --help": ["<SCRIPT>", "--ups <F>", "--users <F>", "--vars <F>"],
 }  # fmt: skip
 
 

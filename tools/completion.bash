@@ -13,7 +13,7 @@ _voqarchay_words() {
     upsd:*)
         case $3 in
         serve) printf '%s\n' --ups --users --vars --ids --listen --maxage --record --record-limit --priorities -h --help ;;
-        replay) printf '%s\n' --ups --users --vars --maxage -h --help FILE ;;
+        replay) printf '%s\n' --ups --users --vars -h --help FILE ;;
         help) printf '%s\n' serve replay ;;
         *) printf '%s\n' serve replay help -h --help -V --version ;;
         esac

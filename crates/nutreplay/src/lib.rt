@@ -6,5 +6,5 @@ mod replaying;
 mod script;
 mod transcript;
 
-pub use replaying::{ReplayFault, replay};
+pub use replaying::{REPLAY_MAX_AGE, ReplayFault, replay};
 pub use script::{line_of, line_of_bytes};

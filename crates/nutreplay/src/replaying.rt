@@ -13,6 +13,9 @@ use nutio::{Sink, send};
 use std::alloc::{AllocError, AllocFailed, Global};
 use thiserror::Error;
 
+/// After how many seconds without a line of its driver a UPS of a replayed script is stale.
+pub const REPLAY_MAX_AGE: u32 = 15;
+
 /// Why a script isn't replayed.
 #[derive(Clone, Copy, Debug, Error)]
 pub enum ReplayFault {
@@ -56,25 +59,23 @@ impl From<AllocError> for ReplayFault {
     }
 }
 
-/// Replays a script over a new server with this greatest age, and writes the transcript. The whole
-/// script is read before its first event.
+/// Replays a script over a new server, and writes the transcript. The whole script is read before
+/// its first event.
 ///
 /// # Errors
 ///
 /// `BadEvent` with the number of the first line that is none of a script's lines, and `Memory`:
-/// nothing is written then. `Write`, where a write of this call failed: a beginning of the
-/// transcript is written.
+/// nothing is written then. `Write`, where a write of this call failed: a beginning of the transcript is written.
 pub fn replay<W: Sink>(
     alloc: Global,
     list: UpsList,
     users: Users,
     descriptions: Descriptions,
-    max_age: MaxAge,
     script: &[u8],
     out: &mut W,
 ) -> Result<(), ReplayFault>
     ensures output { OnOk result ((output : List ℕ)
-        × IsOutput list users descriptions max_age script.now output
+        × IsOutput list users descriptions REPLAY_MAX_AGE script.now output
         × Written W.contents W.failures out.old output out.new) }
     ensures good { OnOk result (first_bad_line list script.now ≡ None) }
     ensures bad { IfErr result (λ fault. (n : ℕ) → fault ≡ ReplayFault.BadEvent n
@@ -82,12 +83,12 @@ pub fn replay<W: Sink>(
     ensures failed { IfErr result (λ fault. fault ≡ ReplayFault.Write
         → first_bad_line list script.now ≡ None) }
     ensures written { IfErr result (λ fault. fault ≡ ReplayFault.Write → (output : List ℕ)
-        × IsOutput list users descriptions max_age script.now output
+        × IsOutput list users descriptions REPLAY_MAX_AGE script.now output
         × WriteFailed W.contents W.failures out.old output out.new) }
     ensures unwritten { IfErr result (λ fault.
         (fault ≡ ReplayFault.Write) ⊎ (out.new ≡ out.old)) }
 {
-    let text = transcript(alloc, list, users, descriptions, max_age, script)?;
+    let text = transcript(alloc, list, users, descriptions, script)?;
     match send(out, &text) {
         Ok(()) => Ok(()),
         Err(_) => Err(ReplayFault::Write),
@@ -100,15 +101,15 @@ fn transcript(
     list: UpsList,
     users: Users,
     descriptions: Descriptions,
-    max_age: MaxAge,
     script: &[u8],
 ) -> Result<Vec<u8>, ReplayFault>
     ensures ok { IfOk result (λ text. (first_bad_line list script.now ≡ None)
-        × IsOutput list users descriptions max_age script.now text.items) }
+        × IsOutput list users descriptions REPLAY_MAX_AGE script.now text.items) }
     ensures err { IfErr result (λ fault. (fault ≡ ReplayFault.Memory)
         ⊎ ((n : ℕ) × (fault ≡ ReplayFault.BadEvent n) × (first_bad_line list script.now ≡ Some n))) }
 {
     let lines = read_script(alloc, &list, script)?;
+    let max_age = MaxAge::read(REPLAY_MAX_AGE).unwrap();
     let mut transcript = Transcript::new(alloc, list, users, descriptions, max_age)?;
     transcript.run(lines)?;
     Ok(transcript.finish()?)

@@ -52,24 +52,18 @@ pub record IsServiceIn (found : ArgMatches) (service : Service) : Type 0 where
 -- The task is to serve over the files, as it was found.
 abbrev pub IsServing : ArgMatches → Task → Type 0
 IsServing found (Serve files service) = AreNamedIn found files × IsServiceIn found service
-IsServing found (Replay files age script) = ⊥
+IsServing found (Replay files script) = ⊥
 
--- The task is to replay the script that was found, over the files and with the greatest age that
--- were.
+-- The task is to replay the script that was found, over the files that were.
 abbrev pub IsReplaying : ArgMatches → Task → Type 0
 IsReplaying found (Serve files service) = ⊥
-IsReplaying found (Replay files age script) = AreNamedIn found files × IsMaxAgeIn found age
+IsReplaying found (Replay files script) = AreNamedIn found files
     × (first_value (found_of found) (codes "SCRIPT") ≡ Some script.now)
-
--- No script was found, or what was found is no greatest age.
-abbrev pub IsNoReplay : ArgMatches → Type 0
-IsNoReplay found = (first_value (found_of found) (codes "SCRIPT") ≡ None)
-    ⊎ ((age : ℕ) → ¬ (IsMaxAgeIn found age))
 
 -- By this name and what was found after it nothing is asked for.
 pub record IsNoTask (name : List ℕ) (found : ArgMatches) : Type 0 where
   pub serve : name ≡ codes "serve" → (service : Service) → ¬ (IsServiceIn found service)
-  pub replay : name ≡ codes "replay" → IsNoReplay found
+  pub replay : name ≡ codes "replay" → first_value (found_of found) (codes "SCRIPT") ≡ None
 
 -- This was found after the name of the subcommand, which is this one.
 pub record IsFoundAfter (text : List ℕ) (words found : ArgMatches) : Type 0 where

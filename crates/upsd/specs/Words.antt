@@ -9,14 +9,6 @@ use Rattle.nutcommand.specs.Words.{Free, Word, long_flag, long_option, operand, 
 use Rattle.nutcore.specs.declared.max_age.TheConstants.{MAX_AGE_LEAST, MAX_AGE_MOST}
 use Rattle.upsd.specs.declared.task.TheConstants.{DEFAULT_ADDRESS, RECORD_MIB_MOST}
 
-abbrev pub max_age : Word
-max_age = (
-  record (long_option (codes "maxage")) {
-    parser = Some (Unsigned MAX_AGE_LEAST MAX_AGE_MOST);
-  },
-  Free,
-)
-
 abbrev pub record_limit : Word
 record_limit = (
   record (long_option (codes "record-limit")) { parser = Some (Unsigned 1 RECORD_MIB_MOST) },
@@ -31,7 +23,12 @@ serve_words =
     ∷ (required (long_option (codes "users")), Free)
     ∷ (long_option (codes "vars"), Free) ∷ (long_option (codes "ids"), Free)
     ∷ (record (long_option (codes "listen")) { defaults = DEFAULT_ADDRESS.now ∷ [] }, Free)
-    ∷ max_age
+    ∷ (
+      record (long_option (codes "maxage")) {
+        parser = Some (Unsigned MAX_AGE_LEAST MAX_AGE_MOST);
+      },
+      Free,
+    )
     ∷ (long_option (codes "record"), Free)
     ∷ record_limit
     ∷ (long_flag (codes "priorities"), Free) ∷ []
@@ -39,12 +36,11 @@ serve_words =
 abbrev pub serve_app : App
 serve_app = with_words (new_app (codes "serve")) serve_words
 
--- `replay [--ups F] [--users F] [--vars F] [--maxage N] SCRIPT`.
+-- `replay [--ups F] [--users F] [--vars F] SCRIPT`.
 abbrev pub replay_words : List Word
 replay_words =
     (long_option (codes "ups"), Free)
     ∷ (long_option (codes "users"), Free) ∷ (long_option (codes "vars"), Free)
-    ∷ max_age
     ∷ (required (operand (codes "SCRIPT")), Free) ∷ []
 
 abbrev pub replay_app : App

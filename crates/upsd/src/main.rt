@@ -9,7 +9,7 @@ ghost use Rattle.nutcommand.specs.Words.{AreWords, Free, IsWord, long_option};
 ghost use Rattle.upsd.specs.Ending.{status_of};
 ghost use Rattle.upsd.specs.Task.{AsksNothing};
 ghost use Rattle.upsd.specs.declared.ending.TheConstants.{FAULT};
-ghost use Rattle.upsd.specs.Words.{AreRead, max_age, record_limit, replay_app, replay_words, serve_app, serve_words};
+ghost use Rattle.upsd.specs.Words.{AreRead, record_limit, replay_app, replay_words, serve_app, serve_words};
 
 mod ending;
 mod files;
@@ -94,14 +94,23 @@ fn serve_words(alloc: Global) -> Result<Vec<Arg<'static>>, AllocError>
         arg!(in alloc; --ids <F>
             "Source of the ids of tracked orders, such as /dev/urandom [without it: no ids]"),
         listen.default_value(DEFAULT_ADDRESS),
-        max_age(alloc),
-        arg!(in alloc; --record <F>
-            "Writes each event into the new file F, passwords too, for replay"),
+        arg!(in alloc; --maxage <N>
+            "Seconds without a line from its driver until a UPS is stale [without it: 15]")
+        .value_parser(ValueParser::unsigned(MAX_AGE_LEAST as u64, MAX_AGE_MOST as u64)),
+        record_file(alloc),
         record_limit(alloc),
         arg!(in alloc; --priorities
             "Begin each line of the journal with its priority, as systemd reads it"),
     ]?;
     Ok(words)
+}
+
+/// The word that names the file of a record.
+fn record_file(alloc: Global) -> Arg<'static>
+    ensures { IsWord (long_option (codes "record"), Free) result }
+{
+    arg!(in alloc; --record <F>
+        "Writes each event into the new file F, passwords too, for replay")
 }
 
 /// The word that limits a record.
@@ -131,7 +140,6 @@ fn replay_words(alloc: Global) -> Result<Vec<Arg<'static>>, AllocError>
         arg!(in alloc; --ups <F> "The list of UPSs, upsd.ups(5) [without it: only su]"),
         arg!(in alloc; --users <F> "The users and their rights, upsd.users(5) [without it: none]"),
         vars(alloc),
-        max_age(alloc),
         arg!(in alloc; <SCRIPT> "The script of events"),
     ]?;
     Ok(words)
@@ -143,15 +151,6 @@ fn vars(alloc: Global) -> Arg<'static>
 {
     arg!(in alloc; --vars <F>
         "Descriptions of variables and commands, upsd.vars(5) [without it: none]")
-}
-
-/// The word of the greatest age.
-fn max_age(alloc: Global) -> Arg<'static>
-    ensures { IsWord max_age result }
-{
-    arg!(in alloc; --maxage <N>
-        "Seconds without a line from its driver until a UPS is stale [without it: 15]")
-    .value_parser(ValueParser::unsigned(MAX_AGE_LEAST as u64, MAX_AGE_MOST as u64))
 }
 
 /// Prints what the parser of the words says: the help, the version, or a fault of the words.
@@ -177,10 +176,10 @@ fn run<'a>(rt: &HostRuntime, matches: &ArgMatches<'a>) -> Result<(), Ending<'a>>
     };
     match task_of(name, found) {
         Some(Task::Serve(files, service)) => serve_files(rt, files, service),
-        Some(Task::Replay(files, max_age, script)) => {
+        Some(Task::Replay(files, script)) => {
             let mut out = CountedWriter::new(io::writer(rt));
             let judged = |c: &Configuration| warn(rt, files, &c.list, &c.users);
-            replay_files(rt.alloc(), rt, files, max_age, script, &mut out, judged)
+            replay_files(rt.alloc(), rt, files, script, &mut out, judged)
         }
         None => Err(Ending::BadArgument {
             address: found.get_str("listen"),

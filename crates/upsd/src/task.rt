@@ -1,8 +1,9 @@
 //! What the program is to do, by the words of its subcommand.
 ghost use Rattle.std.specs.Prelude.{◌≡◌, ◌≢◌, MatchOption, ℕ, None, codes};
 ghost use Rattle.std.specs.declared.net.socket_addr.SocketAddr.{SocketAddr};
+ghost use Rattle.clap.specs.Words.{found_of, first_value};
 ghost use Rattle.upsd.specs.declared.task.Service.{Service};
-ghost use Rattle.upsd.specs.Task.{IsAddressIn, IsMaxAgeIn, IsRecordLimitIn, IsServiceIn, IsServing, IsNoReplay, IsReplaying};
+ghost use Rattle.upsd.specs.Task.{IsAddressIn, IsMaxAgeIn, IsRecordLimitIn, IsServiceIn, IsServing, IsReplaying};
 
 use crate::files::{Files, files_named};
 use clap::ArgMatches;
@@ -33,26 +34,24 @@ pub struct Service {
 pub enum Task<'a> {
     /// It serves over what these files mean.
     Serve(Files<'a>, Service),
-    /// It replays the script of this path over what these files mean, with this greatest age.
-    Replay(Files<'a>, MaxAge, &'a str),
+    /// It replays the script of this path over what these files mean.
+    Replay(Files<'a>, &'a str),
 }
 
-/// What a subcommand with these words asks for, or `None` where one of them isn't what it has to
-/// be.
+/// What a subcommand with these words asks for, or `None` where one of them isn't what it has to be.
 pub fn task_of<'a>(name: &str, found: &ArgMatches<'a>) -> Option<Task<'a>>
     ensures serve { name.now ≡ codes "serve" → MatchOption result
         ((service : Service) → ¬ (IsServiceIn found.now service)) (IsServing found.now) }
     ensures replay { name.now ≡ codes "replay" → MatchOption result
-        (IsNoReplay found.now) (IsReplaying found.now) }
+        (first_value (found_of found.now) (codes "SCRIPT") ≡ None) (IsReplaying found.now) }
     ensures other { name.now ≢ codes "serve" → name.now ≢ codes "replay" → result ≡ None }
 {
     if name == "serve" {
         let service = service_named(found)?;
         Some(Task::Serve(files_named(found), service))
     } else if name == "replay" {
-        let max_age = max_age_named(found)?;
         let script = found.get_str("SCRIPT")?;
-        Some(Task::Replay(files_named(found), max_age, script))
+        Some(Task::Replay(files_named(found), script))
     } else {
         None
     }
