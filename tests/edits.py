@@ -119,12 +119,14 @@ def rounds_of(edits):
     return rounds
 
 
-def judge(crate, edits, kept):
-    """Judges a round over what that folder keeps, which then goes. Returns what is said of each that is refused, and the
-    names of those that aren't."""
+def judge(crate, rounds, kept):
+    """Judges rounds, one after another, over what that folder keeps, which then goes. Returns what is said of each edit
+    that is refused, and the names of those that aren't."""
     if not all(is_there(it) for it in crate.below()):
         return [], [f"{crate.name} (a library below it isn't built, or has changed since)"]
-    judged = in_round(crate, [it for it in edits if it.function and not it.why], kept)
+    edits, judged = sum(rounds, []), {}
+    for some in rounds:
+        judged |= in_round(crate, [it for it in some if it.function and not it.why], kept)
     shutil.rmtree(kept)
     said = [f"{it.name}: refused: {why[:160]}" for it, why in judged.items()]
     return said, [it.name + f" ({it.why})" * bool(it.why) for it in edits if it not in judged]
@@ -171,7 +173,10 @@ def main(words):
                 left.remove(crate)
                 rounds = rounds_of(edits_of(crate))
                 print(f"edits: {crate.name}: {sum(map(len, rounds))} edits in {len(rounds)} rounds", flush=True)
-                ready += [(crate, it, begin(crate)) for it in rounds]
+                # With nothing that was proved to begin with, each round begins with what the one before it proved.
+                kept = begin(crate)
+                parts = [[it] for it in rounds] if glob.glob(f"{kept}/*") else [rounds]
+                ready += [(crate, it, begin(crate) if number else kept) for number, it in enumerate(parts)]
             # The greatest crates are the last ones that are built: their rounds go first.
             ready.sort(key=lambda it: -it[0].count(rb"\n"))
             while ready and len(running) < rt.processors():

@@ -32,8 +32,8 @@ pub fn a_refusal_is_logged_once_a_second()
 /// the events of these turns. A record that ended early holds the lines of a beginning of them, and
 /// at most a beginning of one more line.
 pub fn a_record_is_the_run<S: Sockets, W: Sink + Drop>()
-    ensures { ARecordIsTheRun ⟦<Recorded<S, W> as Sockets>⟧.calls ⟦<Recorded<S, W> as Sockets>⟧.failures
-        W.contents }
+    ensures { ARecordIsTheRun ⟦<Recorded<S, W> as Sockets>⟧.calls
+        ⟦<Recorded<S, W> as Sockets>⟧.failures W.contents }
 {
     every_event_is_recorded::<Recorded<S, W>>();
 }
