@@ -1,6 +1,6 @@
 -- What `ready` answers, by the visits that it makes.
-use Rattle.std.proofs.Common.{◌≡◌, ◌∙◌, true, Option, Some, None, inl, inr, subst, sym}
-use Rattle.std.specs.Prelude.{unwrap_or}
+use Rattle.std.proofs.Common.{◌≡◌, ◌∙◌, Bool, true, false, Option, Some, None, refl, inl, inr, subst, sym}
+use Rattle.std.specs.Prelude.{if◌then◌else◌, unwrap_or}
 use Rattle.nutcore.specs.Server.{ServerState}
 use Rattle.nutloop.specs.declared.over_mio.MioSockets.{MioSockets}
 use Rattle.nutloop.specs.declared.over_mio.pass.Pass.{Pass}
@@ -8,6 +8,11 @@ use Rattle.nutloop.specs.declared.sockets.Ready.{Ready}
 use Rattle.nutloop.specs.declared.sockets.Ready.TheVariants.{Nothing}
 use Rattle.nutloop.specs.OverMio.{AnswersReady, GivesAfterLook, GivesTurn, may_at}
 use Rattle.nutloop.specs.Pass.{IsOver, again, fresh, goes_on}
+
+-- A pass that is the next one without a look.
+pub going_on : (goes_on : Bool) (pass next : Pass) → Some next ≡ (if goes_on then Some pass else None) → (goes_on ≡ true) × (next ≡ pass)
+going_on true pass next h = (refl, cc)
+going_on false pass next h = (cc, cc)
 
 -- The first turn of the next pass, which begins without a look.
 pub of_next_pass : {R F : Type 0} (s : ServerState) (old mid new : MioSockets R F) (next : Pass) (answer : Ready)

@@ -28,7 +28,7 @@ use Rattle.nutloop.specs.declared.sockets.Call.TheVariants.{Readied, Happens}
 use Rattle.nutloop.specs.declared.turns.TheConstants.{DRIVER_READ_LIMIT}
 use Rattle.nutloop.specs.Sockets.{Told, event_in, events_in, GrowsBy, Grows}
 use Rattle.nutcore.specs.DriverOrders.{owed_to_driver}
-use Rattle.nutloop.specs.Turn.{Ask, nobody, reads, writes, Answer, ask, read_of, write_of, MayAnswer, answered, row_events, end_of, calls_behind, calls_behind_all, Does, failures_by, IsRow}
+use Rattle.nutloop.specs.Turn.{Ask, nobody, reads, writes, Answer, unasked, ask, read_of, write_of, MayAnswer, answered, row_events, end_of, calls_behind, calls_behind_all, Does, failures_by, IsRow}
 
 calls_nothing : (a : Option (List Call)) → GrowsBy a a []
 calls_nothing None = tt
@@ -112,6 +112,21 @@ row_behind calls failures ready old sockets middle new after told count r = reco
   told = grows_joins (calls sockets) (calls middle) (calls after) (Readied ready ∷ []) (answered (ask old ready) r.answer ++ calls_behind_all (row_events old ready r.answer) r.outcomes) told r.told;
   count = r.count ∙ ap (failures_by r.answer) count;
 }
+
+-- The answer of ready for a peer that is this one.
+pub of_peer : (before after : Told) (turn : Peer → Ready) (p q : Peer) → p ≡ q → Grows before after (Readied (turn p) ∷ []) → Grows before after (Readied (turn q) ∷ [])
+of_peer before after turn p q is told = subst (λ (r : Peer). Grows before after (Readied (turn r) ∷ [])) is told
+
+-- A row of one event, which asks nothing of the sockets, after the answer of ready.
+pub row_of_event : {S : Type 0} (calls : S → Told) (failures : S → ℕ) (ready : Ready) (e : Event) (o : Outcome) (old : ServerState) (sockets middle : S) (new : ServerState) (after : S)
+    → ask old ready ≡ nobody → row_events old ready unasked ≡ e ∷ []
+    → Grows (calls sockets) (calls middle) (Readied ready ∷ []) → failures middle ≡ failures sockets
+    → Grows (calls middle) (calls after) (Happens e ∷ []) → failures after ≡ failures middle → calls_behind e o ≡ [] → Step old e o new
+    → IsRow calls failures (Readied ready ∷ []) ready old sockets new after
+row_of_event calls failures ready e o old sockets middle new after asked rows told count happens no_failure quiet step =
+    row_behind calls failures ready old sockets middle new after told count
+    (row calls failures ready unasked nobody (e ∷ []) old middle middle new after asked rows tt (grows_nothing (calls middle)) refl
+    (does_quietly calls failures e o old middle new after happens no_failure quiet step))
 
 -- The calls of clients' rows.
 

@@ -1,5 +1,5 @@
 -- What the sockets over mio answer to `ready`, and what they report beside the calls.
-use Rattle.std.specs.Prelude.{◌≡◌, ◌⊎◌, ℕ, ℤ, Bool, List, Option, if◌then◌else◌, slice_get, MatchOption}
+use Rattle.std.specs.Prelude.{◌≡◌, ◌⊎◌, ℕ, ℤ, Bool, Option, if◌then◌else◌, slice_get, MatchOption}
 use Rattle.std.specs.Option.{option_and_then, option_map_or}
 use Rattle.nutusers.specs.UpsList.{id_at}
 use Rattle.nutusers.specs.declared.ups_list.UpsId.{UpsId}
@@ -10,7 +10,6 @@ use Rattle.nutcore.specs.DriverHistory.{has_driver}
 use Rattle.nutloop.specs.declared.sockets.Ready.{Ready}
 use Rattle.nutloop.specs.declared.sockets.Ready.TheVariants as ready
 use Rattle.nutloop.specs.declared.over_mio.MioSockets.{MioSockets}
-use Rattle.nutloop.specs.declared.over_mio.clients.Client.{Client}
 use Rattle.nutloop.specs.declared.over_mio.pass.Pass.{Pass}
 use Rattle.nutloop.specs.declared.over_mio.pass.Stop.{Stop}
 use Rattle.nutloop.specs.declared.over_mio.pass.Stop.TheVariants as stop
@@ -29,19 +28,15 @@ abbrev pub turn_of : Peer → Way → Ready
 turn_of p Read = ready.Read p
 turn_of p Write = ready.Write p
 
-abbrev pub driver_turn : ServerState → UpsId → Way → Ready
-driver_turn s u way = if has_driver u s then turn_of (peer.Driver u) way else ready.DriverUp u
-
-abbrev pub client_turn : List (Option Client) → ℕ → Way → Ready
-client_turn clients place way =
-    option_map_or
-    (λ slot. option_map_or (λ client. turn_of (peer.Client client.id) way) slot ready.Nothing)
-    (slice_get clients place) ready.Nothing
-
 abbrev pub turn_at : {R F : Type 0} → ServerState → MioSockets R F → Stop → Ready
 turn_at s sockets stop.Listener = ready.Newcomer
-turn_at s sockets (stop.Driver place way) = driver_turn s (id_at place) way
-turn_at s sockets (stop.Client place way) = client_turn sockets.clients.items place way
+turn_at s sockets (stop.Driver place way) =
+    let u = id_at place in
+    if has_driver u s then turn_of (peer.Driver u) way else ready.DriverUp u
+turn_at s sockets (stop.Client place way) =
+    option_map_or
+    (λ slot. option_map_or (λ client. turn_of (peer.Client client.id) way) slot ready.Nothing)
+    (slice_get sockets.clients.items place) ready.Nothing
 
 -- A visit of the pass: the turn of a stop, or the pass is over.
 abbrev pub GivesTurn : {R F : Type 0} → ServerState → MioSockets R F → Pass → Option Ready → Pass

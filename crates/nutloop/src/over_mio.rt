@@ -4,7 +4,7 @@ ghost use Rattle.nutio.specs.Ends.{IsCounted, counted};
 ghost use Rattle.nutloop.specs.Sockets.{Grows, nothing_told};
 ghost use Rattle.std.specs.Duration.{as_nanos};
 ghost use Rattle.nutloop.specs.Clock.{Ticks, next_second};
-ghost use Rattle.nutloop.specs.OverMio.{AnswersReady, GivesTurn, client_turn, driver_turn, error_of, refused, turn_of};
+ghost use Rattle.nutloop.specs.OverMio.{AnswersReady, GivesTurn, error_of, refused, turn_of};
 ghost use Rattle.nutloop.specs.Pass.{fresh};
 ghost use Rattle.nutloop.specs.declared.sockets.Call.TheVariants.{Refused};
 
@@ -19,7 +19,7 @@ mod tokens;
 use crate::Ids;
 use crate::sockets::{Broken, Got, Ready, Sockets};
 use arrayvec::ArrayVec;
-use clients::{Client, Clients, slot_of, take_in};
+use clients::{Clients, slot_of, take_in};
 use closing::{CLOSING_LIMIT, Closing, close};
 use door::Door;
 use drivers::{Driver, Drivers, connect, socket_of};
@@ -91,7 +91,7 @@ impl<'a, R: Net + Clock, F: Read + Drop> MioSockets<'a, R, F> {
             drivers,
             clients: ArrayVec::new(),
             closing: Vec::with_capacity(alloc, CLOSING_LIMIT)?,
-            pass: Pass::new(),
+            pass: Pass::default(),
             here: 0,
             failures: 0,
             refusals: 0,
@@ -121,22 +121,6 @@ impl<'a, R: Net + Clock, F: Read + Drop> MioSockets<'a, R, F> {
         self.refusals
     }
 
-    /// What is ready: an id that is due, or the next turn.
-    fn next(&mut self, server: &Server) -> io::Result<Ready>
-        ensures failures { self.new.failures ≡ self.old.failures }
-    {
-        if let Some(ids) = &mut self.ids {
-            if let Some(id) = ids.next() {
-                return Ok(Ready::Id(id));
-            }
-        }
-        // What a client is owed changes by its own turns alone.
-        if let Some(Some(client)) = self.clients.get_mut(self.here) {
-            client.note(server);
-        }
-        self.next_turn(server)
-    }
-
     /// What this pass has left, or the next one, or what the system and the clock report.
     fn next_turn(&mut self, server: &Server) -> io::Result<Ready>
         ensures answers { IfOk result (λ ready.
@@ -146,8 +130,8 @@ impl<'a, R: Net + Clock, F: Read + Drop> MioSockets<'a, R, F> {
         if let Some(ready) = self.visit(server) {
             return Ok(ready);
         }
-        if self.pass.goes_on() {
-            self.pass = self.pass.again();
+        if let Some(pass) = self.pass.again() {
+            self.pass = pass;
             if let Some(ready) = self.visit(server) {
                 return Ok(ready);
             }
@@ -158,7 +142,7 @@ impl<'a, R: Net + Clock, F: Read + Drop> MioSockets<'a, R, F> {
         Ok(self.visit(server).unwrap_or(Ready::Nothing))
     }
 
-    /// The next turn of this pass, if one is left.
+    /// The next turn of this pass, if one is left. The first one of a driver reports that it is connected.
     fn visit(&mut self, server: &Server) -> Option<Ready>
         ensures gives { GivesTurn server.now.state self.old self.old.pass result self.new.pass }
         ensures same { self.new
@@ -168,28 +152,40 @@ impl<'a, R: Net + Clock, F: Read + Drop> MioSockets<'a, R, F> {
         let knocked = self.door.is_knocked_at;
         match self.pass.visit(server, knocked, drivers, clients)? {
             Stop::Listener => Some(Ready::Newcomer),
-            Stop::Driver(place, way) => Some(driver_turn(
-                server,
-                UpsId { place: place as u8 },
-                way,
-            )),
+            Stop::Driver(place, way) => {
+                let u = UpsId { place: place as u8 };
+                if server.driver_connected(u).unwrap_or(false) {
+                    Some(turn_of(Peer::Driver(u), way))
+                } else {
+                    Some(Ready::DriverUp(u))
+                }
+            }
             Stop::Client(place, way) => {
                 self.here = place;
-                Some(client_turn(clients, place, way))
+                match clients.get(place) {
+                    Some(Some(client)) => Some(turn_of(Peer::Client(client.id), way)),
+                    _ => Some(Ready::Nothing),
+                }
             }
         }
     }
 
-    /// Asks the system, and waits for it where nobody had a turn; and the clock. The second, where it is a new one.
+    /// Asks the system, and waits for it up to the next tick where nobody had a turn; and the clock. The second, where it is
+    /// a new one.
     fn look(&mut self, server: &Server) -> io::Result<Option<u64>>
         ensures pass { OnOk result (self.new.pass ≡ fresh) }
         ensures tick { IfOk result (λ tick. Ticks tick self.old.second self.new.second) }
         ensures failures { self.new.failures ≡ self.old.failures }
     {
-        let wait = self.wait()?;
+        let is_left = self.closing.iter().any(|one| one.socket.readable);
+        let wait = if self.pass.had_turn || is_left {
+            Duration::ZERO
+        } else {
+            up_to_tick(self.second, self.start.elapsed(self.rt)?)
+        };
         self.poll.poll(&mut self.events, Some(wait))?;
         self.hear();
-        self.pass = Pass::new();
+        self.pass = Pass::default();
         let second = self.start.elapsed(self.rt)?.as_secs();
         if !self.closing.is_empty() {
             self.closing
@@ -238,15 +234,6 @@ impl<'a, R: Net + Clock, F: Read + Drop> MioSockets<'a, R, F> {
         }
     }
 
-    /// How long the system may be waited for.
-    fn wait(&self) -> io::Result<Duration> {
-        let is_left = self.closing.iter().any(|one| one.socket.readable);
-        if self.pass.had_turn || is_left {
-            return Ok(Duration::ZERO);
-        }
-        Ok(up_to_tick(self.second, self.start.elapsed(self.rt)?))
-    }
-
     /// A call failed: it is counted.
     fn count<T>(&mut self, answer: Result<T, Broken>) -> Result<T, Broken>
         ensures same { result ≡ answer }
@@ -256,27 +243,6 @@ impl<'a, R: Net + Clock, F: Read + Drop> MioSockets<'a, R, F> {
             self.failures = self.failures.saturating_add(1);
         }
         answer
-    }
-}
-
-/// The turn of the driver of a UPS. Its first one reports that it is connected.
-fn driver_turn(server: &Server, u: UpsId, way: Way) -> Ready
-    ensures { result ≡ driver_turn server.now.state u way }
-{
-    if server.driver_connected(u).unwrap_or(false) {
-        turn_of(Peer::Driver(u), way)
-    } else {
-        Ready::DriverUp(u)
-    }
-}
-
-/// The turn of the client of a place.
-fn client_turn(clients: &[Option<Client>], place: usize, way: Way) -> Ready
-    ensures { result ≡ client_turn clients.now place way }
-{
-    match clients.get(place) {
-        Some(Some(client)) => turn_of(Peer::Client(client.id), way),
-        _ => Ready::Nothing,
     }
 }
 
@@ -301,8 +267,18 @@ impl<'a, R: Net + Clock, F: Read + Drop> Sockets for MioSockets<'a, R, F> {
 
     ghost failures = { λ s. s.failures };
 
+    /// An id that is due, or the next turn.
     fn ready(&mut self, server: &Server) -> Result<Ready, Broken> {
-        let answer = self.next(server).map_err(|_| Broken);
+        if let Some(ids) = &mut self.ids {
+            if let Some(id) = ids.next() {
+                return Ok(Ready::Id(id));
+            }
+        }
+        // What a client is owed changes by its own turns alone.
+        if let Some(Some(client)) = self.clients.get_mut(self.here) {
+            client.standing = server.standing(client.id);
+        }
+        let answer = self.next_turn(server).map_err(|_| Broken);
         self.count(answer)
     }
 

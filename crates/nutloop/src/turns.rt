@@ -82,60 +82,6 @@ fn feed_driver<S: Sockets>(server: &mut Server, sockets: &mut S, u: UpsId, piece
     }
 }
 
-/// A client's bytes are fed.
-fn feed<S: Sockets>(server: &mut Server, sockets: &mut S, c: ClientId, piece: &[u8])
-    ensures { Does S.calls S.failures (event.Feed c piece.now ∷ [])
-        server.old.state sockets.old server.new.state sockets.new }
-{
-    sockets.comes(Peer::Client(c), piece);
-    let _ = server.feed(c, piece);
-}
-
-/// A client took so many bytes.
-fn took<S: Sockets>(server: &mut Server, sockets: &mut S, c: ClientId, n: usize)
-    ensures { Does S.calls S.failures (event.Took c n ∷ [])
-        server.old.state sockets.old server.new.state sockets.new }
-{
-    sockets.happens(Event::Took(c, n));
-    let _ = server.took(c, n);
-}
-
-/// A driver took so many bytes.
-fn driver_took<S: Sockets>(server: &mut Server, sockets: &mut S, u: UpsId, n: usize)
-    ensures { Does S.calls S.failures (event.DriverTook u n ∷ [])
-        server.old.state sockets.old server.new.state sockets.new }
-{
-    sockets.happens(Event::DriverTook(u, n));
-    let _ = server.driver_took(u, n);
-}
-
-/// A driver is there.
-fn driver_up<S: Sockets>(server: &mut Server, sockets: &mut S, u: UpsId)
-    ensures { Does S.calls S.failures (event.DriverUp u ∷ [])
-        server.old.state sockets.old server.new.state sockets.new }
-{
-    sockets.happens(Event::DriverUp(u));
-    let _ = server.driver_up(u);
-}
-
-/// The clock goes on.
-fn tick<S: Sockets>(server: &mut Server, sockets: &mut S, seconds: u64)
-    ensures { Does S.calls S.failures (event.Tick seconds ∷ [])
-        server.old.state sockets.old server.new.state sockets.new }
-{
-    sockets.happens(Event::Tick(seconds));
-    server.tick(seconds);
-}
-
-/// An id is handed in.
-fn hand_in<S: Sockets>(server: &mut Server, sockets: &mut S, id: u128)
-    ensures { Does S.calls S.failures (event.Id id ∷ [])
-        server.old.state sockets.old server.new.state sockets.new }
-{
-    sockets.happens(Event::Id(id));
-    let _ = server.id(id);
-}
-
 fn newcomer<S: Sockets>(server: &mut Server, sockets: &mut S) -> Result<(), LoopFault>
     ensures { NewcomerGives S.calls S.failures
         server.old.state sockets.old result server.new.state sockets.new }
@@ -157,13 +103,18 @@ fn read_client<S: Sockets>(server: &mut Server, sockets: &mut S, c: ClientId)
         return;
     };
     if room == 0 {
-        feed(server, sockets, c, &[]);
+        sockets.comes(Peer::Client(c), &[]);
+        let _ = server.feed(c, &[]);
         return;
     }
     let mut bytes = [0; HELD_LIMIT];
     let into = &mut bytes[..room];
     match sockets.read(Peer::Client(c), into) {
-        Ok(Got::Bytes(n)) => feed(server, sockets, c, &into[..n]),
+        Ok(Got::Bytes(n)) => {
+            let piece = &into[..n];
+            sockets.comes(Peer::Client(c), piece);
+            let _ = server.feed(c, piece);
+        }
         Ok(Got::Later) => {}
         Ok(Got::End) => close(server, sockets, c),
         Err(_) => close(server, sockets, c),
@@ -186,16 +137,6 @@ fn read_driver<S: Sockets>(server: &mut Server, sockets: &mut S, u: UpsId)
     }
 }
 
-fn read<S: Sockets>(server: &mut Server, sockets: &mut S, p: Peer)
-    ensures { IsRow S.calls S.failures [] (Read p)
-        server.old.state sockets.old server.new.state sockets.new }
-{
-    match p {
-        Peer::Client(c) => read_client(server, sockets, c),
-        Peer::Driver(u) => read_driver(server, sockets, u),
-    }
-}
-
 fn write_client<S: Sockets>(server: &mut Server, sockets: &mut S, c: ClientId)
     ensures { IsRow S.calls S.failures [] (Write (Client c))
         server.old.state sockets.old server.new.state sockets.new }
@@ -208,7 +149,10 @@ fn write_client<S: Sockets>(server: &mut Server, sockets: &mut S, c: ClientId)
         return;
     }
     match sockets.write(Peer::Client(c), offered) {
-        Ok(n) => took(server, sockets, c, n),
+        Ok(n) => {
+            sockets.happens(Event::Took(c, n));
+            let _ = server.took(c, n);
+        }
         Err(_) => close(server, sockets, c),
     }
 }
@@ -224,18 +168,11 @@ fn write_driver<S: Sockets>(server: &mut Server, sockets: &mut S, u: UpsId)
         return;
     }
     match sockets.write(Peer::Driver(u), owed) {
-        Ok(n) => driver_took(server, sockets, u, n),
+        Ok(n) => {
+            sockets.happens(Event::DriverTook(u, n));
+            let _ = server.driver_took(u, n);
+        }
         Err(_) => lose(server, sockets, u),
-    }
-}
-
-fn write<S: Sockets>(server: &mut Server, sockets: &mut S, p: Peer)
-    ensures { IsRow S.calls S.failures [] (Write p)
-        server.old.state sockets.old server.new.state sockets.new }
-{
-    match p {
-        Peer::Client(c) => write_client(server, sockets, c),
-        Peer::Driver(u) => write_driver(server, sockets, u),
     }
 }
 
@@ -254,12 +191,23 @@ pub fn turn<S: Sockets>(server: &mut Server, sockets: &mut S) -> Result<(), Loop
     };
     match ready {
         Ready::Nothing => {}
-        Ready::Tick(seconds) => tick(server, sockets, seconds),
+        Ready::Tick(seconds) => {
+            sockets.happens(Event::Tick(seconds));
+            server.tick(seconds);
+        }
         Ready::Newcomer => return newcomer(server, sockets),
-        Ready::Id(id) => hand_in(server, sockets, id),
-        Ready::DriverUp(u) => driver_up(server, sockets, u),
-        Ready::Read(p) => read(server, sockets, p),
-        Ready::Write(p) => write(server, sockets, p),
+        Ready::Id(id) => {
+            sockets.happens(Event::Id(id));
+            let _ = server.id(id);
+        }
+        Ready::DriverUp(u) => {
+            sockets.happens(Event::DriverUp(u));
+            let _ = server.driver_up(u);
+        }
+        Ready::Read(Peer::Client(c)) => read_client(server, sockets, c),
+        Ready::Read(Peer::Driver(u)) => read_driver(server, sockets, u),
+        Ready::Write(Peer::Client(c)) => write_client(server, sockets, c),
+        Ready::Write(Peer::Driver(u)) => write_driver(server, sockets, u),
     }
     Ok(())
 }

@@ -1,6 +1,5 @@
 //! Clients.
 ghost use Rattle.std.specs.Prelude.{◌≡◌, ◌<◌, ◌≤◌, length, IfSome};
-ghost use Rattle.nutcore.specs.Status.{standing_of};
 ghost use Rattle.nutlisting.specs.declared.listing.clients.TheConstants.{SESSION_LIMIT};
 ghost use Rattle.nutloop.specs.Pass.{FirstFrom, client_at, client_may};
 
@@ -10,7 +9,7 @@ use super::tokens::Source;
 use arrayvec::ArrayVec;
 use mio::Registry;
 use mio::net::TcpStream;
-use nutcore::{ClientId, SESSION_LIMIT, Server, Standing};
+use nutcore::{ClientId, SESSION_LIMIT, Standing};
 
 /// The clients by their places. A client keeps its place up to its end.
 pub(super) type Clients = ArrayVec<Option<Client>, SESSION_LIMIT>;
@@ -40,13 +39,6 @@ impl Client {
             (Way::Write, true) => socket.writable,
             (Way::Write, false) => standing.is_finished,
         }
-    }
-
-    /// Notes how its session stands.
-    pub fn note(&mut self, server: &Server)
-        ensures { self.new ≡ record self.old { standing = standing_of self.old.id server.now.state } }
-    {
-        self.standing = server.standing(self.id);
     }
 }
 

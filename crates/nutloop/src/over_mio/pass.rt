@@ -1,7 +1,7 @@
 //! One pass over all peers, in which each is visited once.
-ghost use Rattle.std.specs.Prelude.{◌≡◌, ◌<◌, ◌≤◌, ◌+◌, ◌-◌, ◌^◌, Some, length, min, true};
+ghost use Rattle.std.specs.Prelude.{◌≡◌, ◌<◌, ◌≤◌, ◌+◌, ◌-◌, ◌^◌, Some, None, if◌then◌else◌, length, min, true};
 ghost use Rattle.nutlisting.specs.declared.listing.clients.TheConstants.{SESSION_LIMIT};
-ghost use Rattle.nutloop.specs.Pass.{Visits, again, fresh, goes_on, may};
+ghost use Rattle.nutloop.specs.Pass.{Visits, again, goes_on, may};
 ghost use Rattle.nutusers.specs.declared.limits.TheConstants.{UPS_LIMIT};
 
 use super::clients::{Client, client_from};
@@ -44,7 +44,7 @@ const CLIENT_WRITES: usize = CLIENT_READS + SESSION_LIMIT;
 const STOPS: usize = CLIENT_WRITES + SESSION_LIMIT;
 
 /// How far a pass has come, and what there was since the last look at the system.
-#[derive(Clone, Copy)]
+#[derive(Clone, Copy, Default)]
 pub(super) struct Pass {
     /// The stops of lower numbers were visited.
     next: usize,
@@ -57,34 +57,16 @@ pub(super) struct Pass {
 }
 
 impl Pass {
-    /// The first pass after a look.
-    pub fn new() -> Pass
-        ensures { result ≡ fresh }
+    /// The next pass, where it begins without a look.
+    pub fn again(&self) -> Option<Pass>
+        ensures { result ≡ (if goes_on self.now then Some (again self.now) else None) }
     {
-        Pass {
+        let goes_on = self.had_turn && !self.was_driver_read && self.turns < TURNS_PER_LOOK;
+        goes_on.then_some(Pass {
             next: 0,
             had_turn: false,
-            was_driver_read: false,
-            turns: 0,
-        }
-    }
-
-    /// The next pass, where the system isn't asked before.
-    pub fn again(&self) -> Pass
-        ensures { result ≡ again self.now }
-    {
-        Pass {
-            was_driver_read: self.was_driver_read,
-            turns: self.turns,
-            ..Pass::new()
-        }
-    }
-
-    /// Whether the next pass begins without a look.
-    pub fn goes_on(&self) -> bool
-        ensures { result ≡ goes_on self.now }
-    {
-        self.had_turn && !self.was_driver_read && self.turns < TURNS_PER_LOOK
+            ..*self
+        })
     }
 
     /// There is a turn at this stop, of this number.

@@ -2,12 +2,13 @@ use Rattle.std.proofs.Common.{◌≡◌, ℕ, [], ◌∷◌, refl, ap, subst, �
 use Rattle.std.specs.Prelude.{◌≤◌, is_some, if◌then◌else◌}
 use Rattle.nutcore.specs.declared.event.Event.TheVariants.{Feed, Close}
 use Rattle.nutcore.specs.declared.event.Peer.TheVariants.{Client}
+use Rattle.nutcore.specs.Calls.{fed}
 use Rattle.nutcore.specs.Server.{session}
 use Rattle.nutloop.specs.declared.sockets.Ready.TheVariants.{Read}
 use Rattle.nutloop.specs.declared.sockets.Call.TheVariants.{Gave, Waits, Ended}
 use Rattle.nutloop.specs.Sockets.{Grows}
 use Rattle.nutloop.specs.Turn.{nobody, reads, unasked, gave, later, ended, failed}
-use Rattle.nutloop.proofs.Rows.{row, does_nothing, grows_nothing, is_absent, is_there, room_is_asked, asks_read, asks_nobody, asks_nobody_there}
+use Rattle.nutloop.proofs.Rows.{row, does_nothing, does_quietly, grows_nothing, is_absent, is_there, room_is_asked, asks_read, asks_nobody, asks_nobody_there}
 use Rattle.nutloop.proofs.turns.read_client.Goals as goal
 
 pub returns-in_default : goal.returns-in_default
@@ -19,18 +20,20 @@ returns-in_default g c =
 
 pub returns-then-room-eq0 : goal.returns-then-room-eq0
 returns-then-room-eq0 g c =
-    row g.S.Sockets.calls g.S.Sockets.failures (Read (Client c.args.c)) unasked nobody (Feed c.args.c [] ∷ []) c.args.server.now.state c.args.sockets.now c.args.sockets.now c.feed.new.server.state c.feed.new.sockets
+    row g.S.Sockets.calls g.S.Sockets.failures (Read (Client c.args.c)) unasked nobody (Feed c.args.c [] ∷ []) c.args.server.now.state c.args.sockets.now c.args.sockets.now c.feed.new.self.state c.comes.new.self
     (asks_nobody c.args.c c.in-Ok.room c.args.server.now.state c.in-Ok.ensures c.if-room-eq0.true) (ap (λ b. if b then Feed c.args.c [] ∷ [] else []) (is_there c.in-Ok.room (session c.args.c c.args.server.now.state) c.in-Ok.ensures)) tt (grows_nothing (g.S.Sockets.calls c.args.sockets.now)) refl
-    c.feed.ensures
+    (does_quietly g.S.Sockets.calls g.S.Sockets.failures (Feed c.args.c []) (fed c.feed.result) c.args.server.now.state c.args.sockets.now c.feed.new.self.state c.comes.new.self
+    c.comes.ensures.told c.comes.ensures.count refl c.feed.ensures.served.step)
 
 pub returns-in-Ok-Bytes : goal.returns-in-Ok-Bytes
 returns-in-Ok-Bytes g c =
     let bound : c.in-Ok-Bytes.n ≤ length c.read.new.into = rw c.in-Ok-Bytes.field-0-is at c.in-Ok-Bytes.ensures.bound in
     let full : length {A = ℕ} c.read.new.into ≡ c.in-Ok.room = c.read.auto.into ∙ room_is_asked c.in-Ok.room (session c.args.c c.args.server.now.state) c.in-Ok.ensures in
-    row g.S.Sockets.calls g.S.Sockets.failures (Read (Client c.args.c)) (gave (take c.in-Ok-Bytes.n c.read.new.into)) (reads (Client c.args.c) c.in-Ok.room) (Feed c.args.c (take c.in-Ok-Bytes.n c.read.new.into) ∷ []) c.args.server.now.state c.args.sockets.now c.read.new.self c.feed-in-Ok-Bytes.new.server.state c.feed-in-Ok-Bytes.new.sockets
+    row g.S.Sockets.calls g.S.Sockets.failures (Read (Client c.args.c)) (gave (take c.in-Ok-Bytes.n c.read.new.into)) (reads (Client c.args.c) c.in-Ok.room) (Feed c.args.c (take c.in-Ok-Bytes.n c.read.new.into) ∷ []) c.args.server.now.state c.args.sockets.now c.read.new.self c.feed-in-Ok-Bytes.new.self.state c.comes-in-Ok-Bytes.new.self
     (asks_read c.args.c c.in-Ok.room c.args.server.now.state c.in-Ok.ensures c.if-room-eq0.false) refl (omega (arith, length-take {A = ℕ} c.in-Ok-Bytes.n c.read.new.into))
     (subst (λ k. Grows (g.S.Sockets.calls c.args.sockets.now) (g.S.Sockets.calls c.read.new.self) (Gave (Client c.args.c) k (take c.in-Ok-Bytes.n c.read.new.into) ∷ [])) full (rw c.in-Ok-Bytes.field-0-is at c.in-Ok-Bytes.ensures.told)) c.in-Ok-Bytes.ensures.count
-    c.feed-in-Ok-Bytes.ensures
+    (does_quietly g.S.Sockets.calls g.S.Sockets.failures (Feed c.args.c (take c.in-Ok-Bytes.n c.read.new.into)) (fed c.feed-in-Ok-Bytes.result) c.args.server.now.state c.read.new.self c.feed-in-Ok-Bytes.new.self.state c.comes-in-Ok-Bytes.new.self
+    c.comes-in-Ok-Bytes.ensures.told c.comes-in-Ok-Bytes.ensures.count refl c.feed-in-Ok-Bytes.ensures.served.step)
 
 pub returns-in-Ok-Later : goal.returns-in-Ok-Later
 returns-in-Ok-Later g c =

@@ -1,12 +1,13 @@
 use Rattle.std.proofs.Common.{◌∙◌, sym, [], ◌∷◌, refl, ap}
 use Rattle.nutcore.specs.declared.event.Event.TheVariants.{Took, Close}
 use Rattle.nutcore.specs.declared.event.Peer.TheVariants.{Client}
+use Rattle.nutcore.specs.Calls.{done}
 use Rattle.nutcore.specs.Server.{session}
 use Rattle.nutcore.specs.Step.{offered}
 use Rattle.nutcore.specs.Cost.{RunningServer}
 use Rattle.nutloop.specs.declared.sockets.Ready.TheVariants.{Write}
 use Rattle.nutloop.specs.Turn.{nobody, writes, unasked, took, failed, end_of}
-use Rattle.nutloop.proofs.Rows.{row, does_nothing, does_from, grows_nothing, writes_all, writes_nothing, nothing_is_offered, nobody_ends}
+use Rattle.nutloop.proofs.Rows.{row, does_nothing, does_quietly, does_from, grows_nothing, writes_all, writes_nothing, nothing_is_offered, nobody_ends}
 use Rattle.nutloop.proofs.turns.write_client.Goals as goal
 
 pub returns-in_default : goal.returns-in_default
@@ -24,10 +25,11 @@ returns-then-is_empty g c =
 
 pub returns-in-Ok-write : goal.returns-in-Ok-write
 returns-in-Ok-write g c =
-    row g.S.Sockets.calls g.S.Sockets.failures (Write (Client c.args.c)) (took c.in-Ok-write.n) (writes (Client c.args.c) c.in-Ok.offered.now) (Took c.args.c c.in-Ok-write.n ∷ []) c.args.server.now.state c.args.sockets.now c.write.new.self c.took.new.server.state c.took.new.sockets
+    row g.S.Sockets.calls g.S.Sockets.failures (Write (Client c.args.c)) (took c.in-Ok-write.n) (writes (Client c.args.c) c.in-Ok.offered.now) (Took c.args.c c.in-Ok-write.n ∷ []) c.args.server.now.state c.args.sockets.now c.write.new.self c.took.new.self.state c.happens.new.self
     (writes_all (Client c.args.c) c.in-Ok.offered.now (offered (session c.args.c c.args.server.now.state)) c.in-Ok.ensures.bytes.1 (sym c.is_empty.ensures ∙ c.if-is_empty.false)) refl c.in-Ok-write.ensures.bound c.in-Ok-write.ensures.told c.in-Ok-write.ensures.count
-    (does_from g.S.Sockets.calls g.S.Sockets.failures (Took c.args.c c.in-Ok-write.n ∷ []) c.args.server.now.state c.offer.follows.lender-at-none.state c.write.new.self c.took.new.server.state c.took.new.sockets (ap (λ (r : RunningServer). r.state) c.offer.follows.holds-at-none)
-    c.took.ensures)
+    (does_from g.S.Sockets.calls g.S.Sockets.failures (Took c.args.c c.in-Ok-write.n ∷ []) c.args.server.now.state c.offer.follows.lender-at-none.state c.write.new.self c.took.new.self.state c.happens.new.self (ap (λ (r : RunningServer). r.state) c.offer.follows.holds-at-none)
+    (does_quietly g.S.Sockets.calls g.S.Sockets.failures (Took c.args.c c.in-Ok-write.n) (done c.took.result) c.offer.follows.lender-at-none.state c.write.new.self c.took.new.self.state c.happens.new.self
+    c.happens.ensures.told c.happens.ensures.count refl c.took.ensures.served.step))
 
 pub returns-in-Err : goal.returns-in-Err
 returns-in-Err g c =
