@@ -37,8 +37,8 @@ MESSAGES = [
     ("crates/nutloop/src/fault.rt", r'#\[error\("(.*)"\)\]', r"\1"),
     ("crates/upsd/src/warnings.rt", r'warn_if\(.*, &"(.*)"\);', r"warning: PATH: \1"),
     ("crates/upsd/src/warnings.rt", r'(?:format_args!\("\[\{name\}\]: |^ *\([a-z]+, ")(.*)"\)[,;]$', r"warning: PATH: [NAME]: \1"),
-    *((path, r'(?:format_args!\(|let line = )"(.*)"\)?;', r"\1") for path in ("crates/upsd/src/log_buffer.rt", f"{JOURNAL}.rt")),
-    (f"{JOURNAL}/drivers.rt", r'format_args!\("(.*)"\)', r"su: \1"),
+    *((path, r'"(.*)"\)?;\n.*, None, &line\);', r"\1") for path in ("crates/upsd/src/log_buffer.rt", f"{JOURNAL}.rt")),
+    (f"{JOURNAL}.rt", r'format_args!\("(.*)"\)(?:\);|;\n.*, ups, &line\);)', r"su: \1"),
     (ENTRY, r'Note::Data.* &"(.*)"\),', r"su: \1"),
     (ENTRY, r'format_args!\("(status) \{status\}"\)', r"su: \1 STATUS"),
     (ENTRY, r'format_args!\("(lines .*): \{count\}, the last one"\);', r"su: \1: N, the last one: REASON"),
@@ -47,7 +47,7 @@ MESSAGES = [
     (ENTRY, r'Verb::.* => \(".*", "((?!ordered [A-Z ]+").*)", .*\),', r"su: mon@192.0.2.1 \1"),
     (ENTRY, r'format_args!\("\{who\} (was .*) \{command\}.*"\);', r"su: mon@192.0.2.1 \1 COMMAND: WORD"),
 ]
-FORMS = {"path": "PATH", "line": "LINE", "cause": "N", "count": "N", "error": "ERROR"}
+FORMS = {"0": "PATH", "1": "LINE", "2": "N", "count": "N", "error": "ERROR"}
 FAULTS = [("crates/nutrequest/src/faults.rt", r'ClientFault::.* => push\(line, b"(.*)"\),', r"\1")]
 
 

@@ -1,5 +1,5 @@
 //! What an event did that the journal logs.
-ghost use Rattle.std.specs.Prelude.{◌≡◌, ◌≤◌, [], length, IfOk, List, option_copied, vec_capacity};
+ghost use Rattle.std.specs.Prelude.{◌≡◌, ◌≤◌, [], length, IfOk, List, vec_capacity};
 ghost use Rattle.nutcore.specs.Notes.{data_note, note_read, refusal_in, refusal_note, status_note};
 ghost use Rattle.nutcore.specs.Promises.{note_in_reply, with_note};
 ghost use Rattle.nutcore.specs.declared.note.Note.{Note};
@@ -166,24 +166,56 @@ impl Notes {
             }
         }
     }
+
+    /// Adds what a line did that was read and answered so: one that changes nothing only where it is refused.
+    pub(crate) fn add_line(&mut self, session: &Session, read: &ReadLine<'_>, reply: &Reply<'_>)
+        ensures { self.new ≡ with_note (note_in_reply session.now read.now reply.now) self.old }
+    {
+        if let Reply::One(text, change) = reply {
+            if !matches!(change, Change::Nothing) || text.starts_with(b"ERR ") {
+                self.add_told(session, read, text);
+            }
+        }
+    }
+
+    /// Adds what a line did that was read so, and answered by this text. It is a call of its own, so that no other line pays
+    /// for the room of a note.
+    #[inline(never)]
+    fn add_told(&mut self, session: &Session, read: &ReadLine<'_>, text: &[u8])
+        ensures { self.new ≡ with_note (note_read session.now read.now text.now) self.old }
+    {
+        let (verb, ups, name) = match read {
+            Ok(Some(Command::Login(ups))) => (Verb::Login, ups, None),
+            Ok(Some(Command::Primary(ups))) => (Verb::Primary, ups, None),
+            Ok(Some(Command::Fsd(ups))) => (Verb::Fsd, ups, None),
+            Ok(Some(Command::SetVar(ups, name, _))) => (Verb::SetVar, ups, name.read()),
+            Ok(Some(Command::InstCmd(ups, name, _))) => (Verb::InstCmd, ups, name.read()),
+            Ok(Some(Command::Logout)) => return self.add(session.logout()),
+            _ => return,
+        };
+        self.add(Some(Note::Did(Deed {
+            who: session.who(),
+            verb,
+            ups: ups.read(),
+            name,
+            refusal: refusal_in(text),
+        })))
+    }
 }
 
 /// How many lines were refused meanwhile.
 pub(crate) fn refusal_note(u: UpsId, was: &Look, is: &Look) -> Option<Note>
     ensures { result ≡ refusal_note u was.now is.now }
 {
-    if is.refused == was.refused {
-        return None;
-    }
     let count = is.refused.saturating_sub(was.refused);
-    Some(Note::LinesRefused(u, count, is.fault))
+    (is.refused != was.refused).then_some(Note::LinesRefused(u, count, is.fault))
 }
 
 /// Whether the status is another one.
-pub(crate) fn status_note(u: UpsId, was: Option<&Value>, is: Option<&Value>) -> Option<Note>
-    ensures { result ≡ status_note u (option_copied was.entry) (option_copied is.entry) }
+pub(crate) fn status_note(u: UpsId, was: &Look, is: &Look) -> Option<Note>
+    ensures { result ≡ status_note u was.now.status is.now.status }
 {
-    match (was, is) {
+    match (&was.status, &is.status) {
         (_, None) => None,
         (Some(was), Some(is)) if was.as_bytes() == is.as_bytes() => None,
         _ => Some(Note::StatusChanged(u)),
@@ -194,56 +226,7 @@ pub(crate) fn status_note(u: UpsId, was: Option<&Value>, is: Option<&Value>) -> 
 pub(crate) fn data_note(u: UpsId, was: DataState, is: DataState) -> Option<Note>
     ensures { result ≡ data_note u was is }
 {
-    if is == was {
-        return None;
-    }
-    Some(Note::Data(u, is))
-}
-
-/// Notes what a line did that was read and answered so: one that changes nothing only where it is refused.
-pub(crate) fn note_line(
-    session: &Session,
-    read: &ReadLine<'_>,
-    reply: &Reply<'_>,
-    notes: &mut Notes,
-)
-    ensures { notes.new ≡ with_note (note_in_reply session.now read.now reply.now) notes.old }
-{
-    if let Reply::One(text, change) = reply {
-        if !matches!(change, Change::Nothing) || text.starts_with(b"ERR ") {
-            note_told(session, read, text, notes);
-        }
-    }
-}
-
-/// Notes what a line did that was read so, and answered by this text. It is a call of its own, so that no other line pays
-/// for the room of a note.
-#[inline(never)]
-fn note_told(session: &Session, read: &ReadLine<'_>, text: &[u8], notes: &mut Notes)
-    ensures { notes.new ≡ with_note (note_read session.now read.now text.now) notes.old }
-{
-    let Ok(Some(command)) = read else {
-        return;
-    };
-    let (verb, ups, name) = match command {
-        Command::Login(ups) => (Verb::Login, ups, None),
-        Command::Primary(ups) => (Verb::Primary, ups, None),
-        Command::Fsd(ups) => (Verb::Fsd, ups, None),
-        Command::SetVar(ups, name, _) => (Verb::SetVar, ups, Some(name)),
-        Command::InstCmd(ups, name, _) => (Verb::InstCmd, ups, Some(name)),
-        Command::Logout => return notes.add(session.logout()),
-        _ => return,
-    };
-    notes.add(Some(Note::Did(Deed {
-        who: session.who(),
-        verb,
-        ups: ups.read(),
-        name: match name {
-            Some(name) => name.read(),
-            None => None,
-        },
-        refusal: refusal_in(text),
-    })))
+    (is != was).then_some(Note::Data(u, is))
 }
 
 /// The word of a refusal, if the text is one.

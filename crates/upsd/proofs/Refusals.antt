@@ -4,7 +4,7 @@ use Rattle.std.specs.Prelude.{◌==◌, ◌||◌}
 use Rattle.std.specs.List.{list_any}
 use Rattle.std.proofs.lemmas.Bool.Decides.{nat_tests}
 use Rattle.nutcore.specs.declared.note.Note.{Note}
-use Rattle.nutcore.specs.declared.note.Note.TheVariants.{Data, StatusChanged, LinesRefused, LoggedOut, Did}
+use Rattle.nutcore.specs.declared.note.Note.TheVariants.{Did}
 use Rattle.upsd.specs.Refusals.{may_log, after_refusal, after_note, after_notes, ARefusalIsLoggedOnceASecond}
 
 -- whether one of two lists has it
@@ -21,11 +21,8 @@ after_other : (c d : ℕ) (refused : List ℕ) → may_log refused c ≡ false �
 after_other c d refused never = grind (arith, nat_tests, any-append c refused (d ∷ []), length-append refused (d ∷ []))
 
 after_one : (c : ℕ) (refused : List ℕ) (note : Note) → may_log refused c ≡ false → may_log (after_note refused note) c ≡ false
-after_one c refused (Data u state) never = never
-after_one c refused (StatusChanged u) never = never
-after_one c refused (LinesRefused u count fault) never = never
-after_one c refused (LoggedOut u who) never = never
 after_one c refused (Did deed) never = grind (arith, after_other c deed.who.client refused never)
+after_one c refused note never = never
 
 after_all : (c : ℕ) (refused : List ℕ) (notes : List Note) → may_log refused c ≡ false → may_log (after_notes refused notes) c ≡ false
 after_all c refused [] never = never

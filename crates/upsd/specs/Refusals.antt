@@ -4,7 +4,7 @@ use Rattle.std.specs.Prelude.{if◌then◌else◌, not, is_none, nat_lt, length,
 use Rattle.std.specs.List.{list_any}
 use Rattle.nutcore.specs.declared.note.Note.{Note}
 use Rattle.nutcore.specs.declared.note.Note.TheVariants.{Did}
-use Rattle.upsd.specs.declared.journal.refusals.TheConstants.{REFUSAL_LIMIT}
+use Rattle.upsd.specs.declared.journal.TheConstants.{REFUSAL_LIMIT}
 
 -- A refusal of the session is logged where none of it was, and where fewer than 64 were in all.
 abbrev pub may_log : List ℕ → ℕ → Bool

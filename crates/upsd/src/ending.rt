@@ -23,46 +23,28 @@ pub const WORD_FAULT: u8 = 2;
 pub enum Ending<'a> {
     /// One of the words isn't what it has to be: the address, or one that isn't UTF-8.
     #[error("bad argument")]
-    BadArgument {
-        address: Option<&'a str>,
-    },
+    BadArgument(Option<&'a str>),
     /// Memory was refused.
     #[error("no memory")]
     Memory,
     /// The file can't be read.
-    #[error("{path}: cannot read")]
-    Unread {
-        path: &'a str,
-        error: Option<i32>,
-    },
+    #[error("{0}: cannot read")]
+    Unread(&'a str, Option<i32>),
     /// The file of a record can't be made.
-    #[error("{path}: cannot create")]
-    Uncreated {
-        path: &'a str,
-        error: Option<i32>,
-    },
+    #[error("{0}: cannot create")]
+    Uncreated(&'a str, Option<i32>),
     /// This line of a configuration file is refused, with the number of its cause.
-    #[error("{path}:{line}: cause {cause}")]
-    Refused {
-        path: &'a str,
-        line: usize,
-        cause: u8,
-    },
+    #[error("{0}:{1}: cause {2}")]
+    Refused(&'a str, usize, u8),
     /// This line of the script is none of a script's lines.
-    #[error("{path}:{line}: bad event")]
-    BadEvent {
-        path: &'a str,
-        line: usize,
-    },
+    #[error("{0}:{1}: bad event")]
+    BadEvent(&'a str, usize),
     /// The output failed.
     #[error("write failed")]
     Write,
     /// The address can't be listened at.
     #[error("cannot listen")]
-    Listen {
-        address: SocketAddr,
-        error: Option<i32>,
-    },
+    Listen(SocketAddr, Option<i32>),
     /// The loop can't go on.
     #[error("{0}")]
     Loop(LoopFault),
@@ -74,11 +56,7 @@ pub fn ending_of_file(path: &str, fault: ConfFault) -> Ending<'_>
 {
     match fault.cause {
         Cause::Memory => Ending::Memory,
-        cause => Ending::Refused {
-            path,
-            line: fault.line,
-            cause: cause.number(),
-        },
+        cause => Ending::Refused(path, fault.line, cause.number()),
     }
 }
 
@@ -90,7 +68,7 @@ pub fn ended<'a>(script: &'a str, replayed: Result<(), ReplayFault>) -> Result<(
 {
     match replayed {
         Ok(()) => Ok(()),
-        Err(ReplayFault::BadEvent(line)) => Err(Ending::BadEvent { path: script, line }),
+        Err(ReplayFault::BadEvent(line)) => Err(Ending::BadEvent(script, line)),
         Err(ReplayFault::Memory) => Err(Ending::Memory),
         Err(ReplayFault::Write) => Err(Ending::Write),
     }
@@ -102,7 +80,7 @@ pub fn status_of(ended: &Result<(), Ending<'_>>) -> u8
 {
     match ended {
         Ok(()) => DONE,
-        Err(Ending::BadArgument { .. }) => WORD_FAULT,
+        Err(Ending::BadArgument(_)) => WORD_FAULT,
         Err(_) => FAULT,
     }
 }
@@ -111,21 +89,20 @@ pub fn status_of(ended: &Result<(), Ending<'_>>) -> u8
 pub fn tell(rt: &HostRuntime, ending: &Ending<'_>) {
     let _ = eprintln!(rt; "upsd: {ending}");
     match *ending {
-        Ending::BadArgument { address } => {
-            let _ = match address {
-                Some(word) => eprintln!(rt; "upsd: --listen {word}: not an IP address and a port"),
-                None => eprintln!(rt; "upsd: a word is not UTF-8"),
-            };
+        Ending::BadArgument(Some(word)) => {
+            let _ = eprintln!(rt; "upsd: --listen {word}: not an IP address and a port");
         }
-        Ending::Unread { path, error } => tell_error(rt, &path, error),
-        Ending::Uncreated { path, error } => tell_error(rt, &path, error),
-        Ending::Listen { address, error } => tell_error(rt, &address, error),
+        Ending::BadArgument(None) => {
+            let _ = eprintln!(rt; "upsd: a word is not UTF-8");
+        }
+        Ending::Unread(path, error) | Ending::Uncreated(path, error) => explain(rt, &path, error),
+        Ending::Listen(address, error) => explain(rt, &address, error),
         _ => {}
     }
 }
 
 /// Tells the system's error of a file or an address, if it has one.
-fn tell_error<D: fmt::Display>(rt: &HostRuntime, of: &D, error: Option<i32>) {
+fn explain<D: fmt::Display>(rt: &HostRuntime, of: &D, error: Option<i32>) {
     if let Some(number) = error {
         let error = io::Error::from_raw_os_error(number);
         let _ = eprintln!(rt; "upsd: {of}: {error}");

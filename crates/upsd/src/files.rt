@@ -60,13 +60,10 @@ pub fn configuration_in<'a, R: FileReader>(
     ensures means { IfOk result (AreMeant (R.gives reader.now) files.entry) }
     ensures fails { IfErr result (FirstFails (R.gives reader.now) files.entry) }
 {
-    let list = list_in(alloc, reader, files.ups)?;
-    let users = users_in(alloc, reader, files.users)?;
-    let descriptions = descriptions_in(alloc, reader, files.vars)?;
     Ok(Configuration {
-        list,
-        users,
-        descriptions,
+        list: list_in(alloc, reader, files.ups)?,
+        users: users_in(alloc, reader, files.users)?,
+        descriptions: descriptions_in(alloc, reader, files.vars)?,
     })
 }
 

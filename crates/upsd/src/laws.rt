@@ -3,7 +3,7 @@ ghost use Rattle.std.specs.Prelude.{◌≡◌, codes};
 ghost use Rattle.upsd.specs.Recorded.{ARecordIsTheRun};
 ghost use Rattle.upsd.specs.Refusals.{ARefusalIsLoggedOnceASecond};
 ghost use Rattle.upsd.specs.declared.ending.TheConstants.{DONE, FAULT, WORD_FAULT};
-ghost use Rattle.upsd.specs.declared.journal.refusals.TheConstants.{REFUSAL_LIMIT};
+ghost use Rattle.upsd.specs.declared.journal.TheConstants.{REFUSAL_LIMIT};
 ghost use Rattle.upsd.specs.declared.log_buffer.TheConstants.{LOG_LIMIT};
 ghost use Rattle.upsd.specs.declared.task.TheConstants.{DEFAULT_ADDRESS};
 

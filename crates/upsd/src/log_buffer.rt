@@ -20,7 +20,7 @@ pub const WARNING: u8 = 4;
 
 pub const NOTICE: u8 = 5;
 
-pub const INFORMATION: u8 = 6;
+pub const INFO: u8 = 6;
 
 /// The most bytes of lines that wait.
 pub const LOG_LIMIT: usize = 32_768;
@@ -88,7 +88,7 @@ impl LogBuffer {
             if self.dropped > 0 && self.waiting.is_empty() {
                 let count = mem::replace(&mut self.dropped, 0);
                 let line = format_args!("{count} lines of the journal were dropped");
-                self.add(INFORMATION, None, &line);
+                self.add(INFO, None, &line);
             }
             let count = self.waiting.len().min(PIECE_LIMIT);
             if count == 0 || !takes_bytes() {

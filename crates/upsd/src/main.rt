@@ -40,7 +40,7 @@ use std::io;
 use std::process::ExitCode;
 
 fn main(rt: HostRuntime) -> ExitCode {
-    let words = match words_of(&rt, Ending::BadArgument { address: None }, Ending::Memory) {
+    let words = match words_of(&rt, Ending::BadArgument(None), Ending::Memory) {
         Ok(words) => words,
         Err(ending) => return finish(&rt, &Err(ending)),
     };
@@ -172,7 +172,7 @@ fn run<'a>(rt: &HostRuntime, matches: &ArgMatches<'a>) -> Result<(), Ending<'a>>
         → AsksNothing matches.now }
 {
     let Some((name, found)) = matches.subcommand() else {
-        return Err(Ending::BadArgument { address: None });
+        return Err(Ending::BadArgument(None));
     };
     match task_of(name, found) {
         Some(Task::Serve(files, service)) => serve_files(rt, files, service),
@@ -181,9 +181,7 @@ fn run<'a>(rt: &HostRuntime, matches: &ArgMatches<'a>) -> Result<(), Ending<'a>>
             let judged = |c: &Configuration| warn(rt, files, &c.list, &c.users);
             replay_files(rt.alloc(), rt, files, script, &mut out, judged)
         }
-        None => Err(Ending::BadArgument {
-            address: found.get_str("listen"),
-        }),
+        None => Err(Ending::BadArgument(found.get_str("listen"))),
     }
 }
 

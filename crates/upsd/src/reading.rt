@@ -62,9 +62,8 @@ pub fn read<'a, R: FileReader>(reader: &R, path: &'a str) -> Result<Vec<u8>, End
         (λ bytes. R.gives reader.now path.entry.now (Ok bytes.items))
         (CantBeRead (R.gives reader.now) path.entry) }
 {
-    reader
-        .read_file(path)
-        .map_err(|fault| ending_of_unread(path, fault))
+    let read = reader.read_file(path);
+    read.map_err(|fault| ending_of_unread(path, fault))
 }
 
 /// How the program ends where it can't read a file.
@@ -73,7 +72,7 @@ fn ending_of_unread(path: &str, fault: ReadFault) -> Ending<'_>
 {
     match fault {
         ReadFault::Memory => Ending::Memory,
-        ReadFault::Failed(error) => Ending::Unread { path, error },
+        ReadFault::Failed(error) => Ending::Unread(path, error),
     }
 }
 
@@ -93,8 +92,5 @@ pub fn create<'a>(rt: &HostRuntime, path: &'a str) -> Result<File, Ending<'a>>
         .create_new(true)
         .mode(FOR_OWNER)
         .open(rt, path);
-    made.map_err(|error| Ending::Uncreated {
-        path,
-        error: error.raw_os_error(),
-    })
+    made.map_err(|error| Ending::Uncreated(path, error.raw_os_error()))
 }

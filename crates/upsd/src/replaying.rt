@@ -60,6 +60,5 @@ fn replay_over<'a, W: Sink>(
         users,
         descriptions,
     } = configuration;
-    let replayed = replay(alloc, list, users, descriptions, bytes, out);
-    ended(script, replayed)
+    ended(script, replay(alloc, list, users, descriptions, bytes, out))
 }

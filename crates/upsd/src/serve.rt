@@ -8,7 +8,7 @@ ghost use Rattle.upsd.specs.Ending.{IsEndOfServing, TellsAddress};
 ghost use Rattle.upsd.specs.Reading.{CantBeMade, CantBeOpened, anything};
 
 use crate::ending::Ending;
-use crate::files::{Configuration, Files, configuration_in};
+use crate::files::{Files, configuration_in};
 use crate::journal::Journal;
 use crate::reading::{FileReader, create, open};
 use crate::recorded::{Recorded, Recorder};
@@ -26,7 +26,7 @@ use std::time::{SystemTime, UNIX_EPOCH};
 use std::{env, io};
 
 /// The sockets of the system, whose events may be written to a file.
-type AllSockets<'a> = Recorded<MioSockets<'a, HostRuntime, File>, CountedWriter<File>>;
+pub type AllSockets<'a> = Recorded<MioSockets<'a, HostRuntime, File>, CountedWriter<File>>;
 
 /// `upsd serve`: warns of what is dangerous in the files, and serves until the loop can't go on.
 ///
@@ -71,12 +71,9 @@ fn server_of<'a, R: FileReader>(
     ensures fails { IfErr result (λ ending.
         FirstFails (R.gives reader.now) files.entry ending ⊎ (ending ≡ Ending.Memory)) }
 {
-    let Configuration {
-        list,
-        users,
-        descriptions,
-    } = configuration_in(alloc, reader, files)?;
-    Server::new(alloc, list, users, descriptions, max_age).map_err(|_| Ending::Memory)
+    let read = configuration_in(alloc, reader, files)?;
+    let server = Server::new(alloc, read.list, read.users, read.descriptions, max_age);
+    server.map_err(|_| Ending::Memory)
 }
 
 /// Opens the ids' file, listens at the address, and serves there. It owns only the sockets, and
@@ -116,9 +113,7 @@ fn recorder_in<'a>(
     ensures { IfErr result (λ ending. (ending ≡ Ending.Memory)
         ⊎ ((path : _) × CantBeMade path ending)) }
 {
-    let Ok(list) = server.ups().share() else {
-        return Err(Ending::Memory);
-    };
+    let list = server.ups().share().map_err(|_| Ending::Memory)?;
     let mut writer = None;
     if let Some(path) = path {
         let mut file = create(rt, path)?;
@@ -154,11 +149,13 @@ fn serve_over<'a>(
     ensures { IfErr result (IsEndOfServing service.address) }
 {
     let address = service.address;
-    let Ok(mut journal) = Journal::new(rt.alloc(), service) else {
-        return Err(Ending::Memory);
-    };
+    let mut journal = Journal::new(rt.alloc(), service).map_err(|_| Ending::Memory)?;
     warn(rt, files, server.ups(), server.users());
-    tell(rt, address, &sockets.sockets)?;
+    let mut out = CountedWriter::new(io::writer(rt));
+    match sockets.sockets.local_addr() {
+        Ok(bound) => tell_address(rt.alloc(), &mut out, bound)?,
+        Err(error) => return Err(ending_of_listening(address, &error)),
+    }
     go_round(rt, server, sockets, &mut journal)
 }
 
@@ -180,31 +177,14 @@ fn go_round<'a>(
     ensures run { IsOneRun server.old.state server.new.state }
 {
     match nutloop::serve(server, sockets, |server, sockets| {
-        journal.write(rt, server, &sockets.sockets, sockets.recorder.is_cut());
+        journal.write(rt, server, sockets);
     }) {
         Ok(()) => Ok(()),
         Err(fault) => Err(Ending::Loop(fault)),
     }
 }
 
-/// Tells on standard output at which address clients are listened for.
-fn tell<'a>(
-    rt: &HostRuntime,
-    address: SocketAddr,
-    sockets: &MioSockets<'_, HostRuntime, File>,
-) -> Result<(), Ending<'a>>
-    ensures { IfErr result (IsEndOfServing address) }
-{
-    match sockets.local_addr() {
-        Ok(bound) => {
-            let mut out = CountedWriter::new(io::writer(rt));
-            tell_address(rt.alloc(), &mut out, bound)
-        }
-        Err(error) => Err(ending_of_listening(address, &error)),
-    }
-}
-
-/// Tells that clients are listened for at the address.
+/// Prints that clients are listened for at the address.
 fn tell_address<'a, W: Sink>(
     alloc: Global,
     out: &mut W,
@@ -212,9 +192,7 @@ fn tell_address<'a, W: Sink>(
 ) -> Result<(), Ending<'a>>
     ensures { TellsAddress W.contents W.failures address out.old result out.new }
 {
-    let Ok(line) = format!(in alloc; "upsd: listening on {address}\n") else {
-        return Err(Ending::Memory);
-    };
+    let line = format!(in alloc; "upsd: listening on {address}\n").map_err(|_| Ending::Memory)?;
     match send(out, line.as_bytes()) {
         Ok(()) => Ok(()),
         Err(_) => Err(Ending::Write),
@@ -230,9 +208,6 @@ fn ending_of_listening<'a>(address: SocketAddr, error: &Error) -> Ending<'a>
 {
     match error.kind() {
         ErrorKind::OutOfMemory => Ending::Memory,
-        _ => Ending::Listen {
-            address,
-            error: error.raw_os_error(),
-        },
+        _ => Ending::Listen(address, error.raw_os_error()),
     }
 }

@@ -47,11 +47,9 @@ pub fn task_of<'a>(name: &str, found: &ArgMatches<'a>) -> Option<Task<'a>>
     ensures other { name.now ≢ codes "serve" → name.now ≢ codes "replay" → result ≡ None }
 {
     if name == "serve" {
-        let service = service_named(found)?;
-        Some(Task::Serve(files_named(found), service))
+        Some(Task::Serve(files_named(found), service_named(found)?))
     } else if name == "replay" {
-        let script = found.get_str("SCRIPT")?;
-        Some(Task::Replay(files_named(found), script))
+        Some(Task::Replay(files_named(found), found.get_str("SCRIPT")?))
     } else {
         None
     }
@@ -62,15 +60,11 @@ fn service_named(found: &ArgMatches<'_>) -> Option<Service>
     ensures { MatchOption result
         ((service : Service) → ¬ (IsServiceIn found.now service)) (IsServiceIn found.now) }
 {
-    let address = address_named(found)?;
-    let max_age = max_age_named(found)?;
-    let record_limit = record_limit_named(found)?;
-    let priorities = found.get_flag("priorities");
     Some(Service {
-        address,
-        max_age,
-        record_limit,
-        priorities,
+        address: address_named(found)?,
+        max_age: max_age_named(found)?,
+        record_limit: record_limit_named(found)?,
+        priorities: found.get_flag("priorities"),
     })
 }
 
@@ -88,11 +82,8 @@ fn max_age_named(found: &ArgMatches<'_>) -> Option<MaxAge>
     ensures { MatchOption result
         ((age : ℕ) → ¬ (IsMaxAgeIn found.now age)) (IsMaxAgeIn found.now) }
 {
-    match found.try_get_one::<u32>("maxage") {
-        Ok(Some(seconds)) => MaxAge::read(seconds),
-        Ok(None) => MaxAge::read(MAX_AGE_DEFAULT),
-        Err(_) => None,
-    }
+    let seconds = found.try_get_one::<u32>("maxage").ok()?;
+    MaxAge::read(seconds.unwrap_or(MAX_AGE_DEFAULT))
 }
 
 /// The MiB after `--record-limit`.
@@ -100,9 +91,6 @@ fn record_limit_named(found: &ArgMatches<'_>) -> Option<u64>
     ensures { MatchOption result
         ((limit : ℕ) → ¬ (IsRecordLimitIn found.now limit)) (IsRecordLimitIn found.now) }
 {
-    match found.try_get_one::<u64>("record-limit") {
-        Ok(Some(mebibytes)) => Some(mebibytes),
-        Ok(None) => Some(RECORD_MIB),
-        Err(_) => None,
-    }
+    let mebibytes = found.try_get_one::<u64>("record-limit").ok()?;
+    Some(mebibytes.unwrap_or(RECORD_MIB))
 }

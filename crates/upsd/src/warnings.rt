@@ -32,9 +32,8 @@ pub fn warn(rt: &HostRuntime, files: Files<'_>, list: &UpsList, users: &Users) {
         warn_if(rt, read.is_err(), path, &"gives no id for a tracked order");
     }
     if let Some(path) = files.users {
-        let mode = fs::metadata(rt, path).map(|file| file.permissions().mode());
-        let is_for_all = mode.is_ok_and(|mode| mode & READ_BY_ALL != 0);
-        warn_if(rt, is_for_all, path, &"everybody may read it");
+        let mode = fs::metadata(rt, path).map_or(0, |file| file.permissions().mode());
+        warn_if(rt, mode & READ_BY_ALL != 0, path, &"everybody may read it");
         warn_if(rt, users.as_slice().is_empty(), path, &"no users");
         for user in users.as_slice() {
             warn_of_user(rt, path, user);
@@ -42,11 +41,12 @@ pub fn warn(rt: &HostRuntime, files: Files<'_>, list: &UpsList, users: &Users) {
     }
 }
 
+/// Warns of a user. The passwords of the example are those of examples/upsd.users.
 fn warn_of_user(rt: &HostRuntime, path: &str, user: &User) {
-    let known = user.password().is_some_and(is_of_example);
+    let (name, password) = (user.name().escape_ascii(), user.password());
+    let unset = password.is_none();
+    let known = matches!(password, Some(b"change-me" | b"change-me-too"));
     let small = user.grants().iter().any(is_small_all);
-    let unset = user.password().is_none();
-    let name = user.name().escape_ascii();
     for (is_so, danger) in [
         (known, "a password of the example, which everybody knows"),
         (small, "only ALL grants every command"),
@@ -60,11 +60,6 @@ fn warn_if<D: Display>(rt: &HostRuntime, is_so: bool, path: &str, warning: &D) {
     if is_so {
         let _ = eprintln!(rt; "upsd: warning: {path}: {warning}");
     }
-}
-
-/// It is a password of examples/upsd.users.
-fn is_of_example(password: &[u8]) -> bool {
-    password == b"change-me".as_slice() || password == b"change-me-too".as_slice()
 }
 
 /// It is `ALL`, but not in capitals: a command of that name.

@@ -18,7 +18,6 @@ ghost use Rattle.nutcore.specs.declared.note.TheConstants.{NOTE_LIMIT};
 use super::Server;
 use super::view::ServerView;
 use crate::event::{ClientId, Fault};
-use crate::note::note_line;
 use crate::session::Session;
 use crate::ups::Ups;
 use nutanswer::{Change, Command, Reply};
@@ -54,7 +53,7 @@ impl Server {
         let session = &self.sessions[place];
         let read = Command::read(session.next_line(end));
         let reply = view.reply_to(session.asker(), &read, &mut self.reply_line)?;
-        note_line(session, &read, &reply, &mut self.notes);
+        self.notes.add_line(session, &read, &reply);
         change_upses(&mut self.upses, &mut self.tracking, &reply);
         list_clients(&self.sessions, &reply, &mut self.scratch.clients);
         let session = &mut self.sessions[place];

@@ -60,8 +60,7 @@ impl Server {
     {
         if let (Some(was), Some(is)) = (was, self.look(u)) {
             self.notes.add(refusal_note(u, &was, &is));
-            self.notes
-                .add(status_note(u, was.status.as_ref(), is.status.as_ref()));
+            self.notes.add(status_note(u, &was, &is));
             self.notes.add(data_note(u, was.state, is.state));
         }
     }
