@@ -137,8 +137,7 @@ impl<'a> Command<'a> {
         match words.next().ok_or(ErrWord::InvalidArgument)? {
             kind if kind.is_word(b"VAR") => {
                 let (ups, name, value) = ups_name_and_value_if_any(words)?;
-                let value = value.ok_or(ErrWord::InvalidArgument)?;
-                Ok(Command::SetVar(ups, name, value))
+                Ok(Command::SetVar(ups, name, value.ok_or(ErrWord::InvalidArgument)?))
             }
             kind if kind.is_word(b"TRACKING") => Ok(Command::SetTracking(on_or_off(words)?)),
             _ => Err(ErrWord::InvalidArgument),
