@@ -7,7 +7,7 @@ ghost use Rattle.nutlisting.specs.Lines.{IsWholeLine};
 ghost use Rattle.nutlisting.specs.declared.lines.TheConstants.{KIND_LIMIT};
 ghost use Rattle.nutanswer.specs.View.{Seen, asker_seen};
 ghost use Rattle.nutanswer.specs.Answer.{answer_to, shares_version, told, count_of_logins, one_line, ok, Answer, IsReply};
-ghost use Rattle.nutanswer.specs.Promises.{CarriesAnswer, Gives, GivesReply, GivesLine, GivesListing, row};
+ghost use Rattle.nutanswer.specs.Promises.{CarriesAnswer, Gives, GivesLine, GivesListing, row};
 ghost use Rattle.nutanswer.specs.declared.command.Command.TheVariants.{GetVar, GetType, GetDesc, GetCmdDesc, GetUpsDesc, ListUps, ListVar, ListRw, ListCmd, ListEnum, ListRange};
 
 mod orders;
@@ -21,6 +21,7 @@ use nutlisting::{
     variable_line_into,
 };
 use nutwords::Line;
+use orders::{inst_cmd, progress, set_var};
 use std::alloc::AllocError;
 
 /// The reply of a row, or the word of its error.
@@ -59,12 +60,8 @@ pub fn answer<'a, V: View>(
         Command::Logout => Ok(Reply::One(b"OK Goodbye\n", Change::Ending)),
         Command::Primary(ups) => session::primary(view, asker, ups),
         Command::Fsd(ups) => session::fsd(view, asker, ups),
-        Command::SetVar(ups, name, value) => {
-            orders::set_var(view, asker, ups, name, value, line)
-        }
-        Command::InstCmd(ups, name, value) => {
-            orders::inst_cmd(view, asker, ups, name, value, line)
-        }
+        Command::SetVar(ups, name, value) => set_var(view, asker, ups, name, value, line),
+        Command::InstCmd(ups, name, value) => inst_cmd(view, asker, ups, name, value, line),
         Command::SetTracking(on) => Ok(ok(Change::Tracking(*on))),
         Command::GetVar(ups, name) => made(get_var(view, ups, name, line), line),
         Command::GetType(ups, name) => made(get_type(view, ups, name, line), line),
@@ -74,7 +71,7 @@ pub fn answer<'a, V: View>(
         Command::GetNumLogins(ups) => made(num_logins(view, b"NUMLOGINS", ups, line), line),
         Command::GetNumAttach(ups) => made(num_logins(view, b"NUMATTACH", ups, line), line),
         Command::GetTracking => session::get_tracking(asker),
-        Command::GetProgress(id) => made(orders::progress(view, *id, line), line),
+        Command::GetProgress(id) => made(progress(view, *id, line), line),
         Command::ListUps => return listed(Ok(Listing::of_upses(view.list()))),
         Command::ListVar(ups) => return listed(list_var(view, ups)),
         Command::ListRw(ups) => return listed(list_rw(view, ups)),
@@ -89,7 +86,10 @@ pub fn answer<'a, V: View>(
         Command::NetVer | Command::ProtVer => plain(b"1.3\n"),
         Command::StartTls => Err(ErrWord::FeatureNotConfigured),
     };
-    Ok(given(row))
+    Ok(match row {
+        Ok(reply) => reply,
+        Err(word) => refused(word),
+    })
 }
 
 // The rows stay calls of their own: what is inlined here is cleared for each command, also where another one was asked
@@ -171,17 +171,6 @@ fn made<'a>(row: Made, line: &'a Line) -> Row<'a>
 {
     row?;
     Ok(Reply::One(line.as_slice(), Change::Nothing))
-}
-
-/// The reply of a row, or the line of its error.
-fn given<'a>(row: Row<'a>) -> Reply<'a>
-    ensures { (s : Seen) (answer : Result Answer ErrWord)
-        → GivesReply s answer row.entry → IsReply s answer result }
-{
-    match row {
-        Ok(reply) => reply,
-        Err(word) => refused(word),
-    }
 }
 
 /// The reply of a row that lists, or the line of its error.

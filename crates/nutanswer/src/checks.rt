@@ -57,10 +57,9 @@ pub(crate) fn known_ups<'a, V: View>(view: &'a V, ups: &UpsWord<'_>) -> Checked<
     let id = list.find(word.as_bytes()).ok_or(ErrWord::UnknownUps)?;
     let name = list.name(id).ok_or(ErrWord::UnknownUps)?;
     let state = view.ups(id).ok_or(ErrWord::UnknownUps)?;
-    let desc = list.desc(id);
     Ok(Known {
         name,
-        desc,
+        desc: list.desc(id),
         id,
         state,
     })

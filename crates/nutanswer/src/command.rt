@@ -82,7 +82,7 @@ pub enum Command<'a> {
 
 impl<'a> Command<'a> {
     ghost use Rattle.nutwords.specs.Spelled.{spelled};
-    ghost use Rattle.nutanswer.specs.Command.{read_command, command_named, other_command, read_set, read_get, read_list};
+    ghost use Rattle.nutanswer.specs.Command.{read_command, other_command, read_set, read_get, read_list};
 
     /// Reads a line without its LF, of at most 2,047 bytes. A line without words is no command.
     ///
@@ -95,21 +95,12 @@ impl<'a> Command<'a> {
         ensures { result ≡ read_command line.now }
     {
         let mut words = spelled_words(line).map_err(|_| ErrWord::InvalidArgument)?;
-        let Some(first) = words.next() else {
-            return Ok(None);
-        };
-        Ok(Some(Command::named(&first, words)?))
-    }
-
-    /// The command that is called so, with these words after its first: a GET, LIST or SET, or else of another kind.
-    fn named(first: &SpelledWord<'_>, words: SpelledWords<'a>) -> Checked<Command<'a>>
-        ensures { result ≡ command_named (spelled first.now) words.entry }
-    {
-        match first {
-            _ if first.is_word(b"GET") => Command::get(words),
-            _ if first.is_word(b"LIST") => Command::list(words),
-            _ if first.is_word(b"SET") => Command::set(words),
-            _ => Command::other(first, words),
+        match words.next() {
+            None => Ok(None),
+            Some(first) if first.is_word(b"GET") => Ok(Some(Command::get(words)?)),
+            Some(first) if first.is_word(b"LIST") => Ok(Some(Command::list(words)?)),
+            Some(first) if first.is_word(b"SET") => Ok(Some(Command::set(words)?)),
+            Some(first) => Ok(Some(Command::other(&first, words)?)),
         }
     }
 
@@ -146,8 +137,7 @@ impl<'a> Command<'a> {
         match words.next().ok_or(ErrWord::InvalidArgument)? {
             kind if kind.is_word(b"VAR") => {
                 let (ups, name, value) = ups_name_and_value_if_any(words)?;
-                let value = value.ok_or(ErrWord::InvalidArgument)?;
-                Ok(Command::SetVar(ups, name, value))
+                Ok(Command::SetVar(ups, name, value.ok_or(ErrWord::InvalidArgument)?))
             }
             kind if kind.is_word(b"TRACKING") => Ok(Command::SetTracking(on_or_off(words)?)),
             _ => Err(ErrWord::InvalidArgument),

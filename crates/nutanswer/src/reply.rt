@@ -62,9 +62,8 @@ impl<'a> GivenPassword<'a> {
     {
         line.clear();
         line.try_extend_from_slice(password.as_bytes()).unwrap();
-        GivenPassword {
-            bytes: line.as_slice(),
-        }
+        let bytes = line.as_slice();
+        GivenPassword { bytes }
     }
 
     /// The password, to be kept.

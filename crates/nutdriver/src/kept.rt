@@ -69,7 +69,7 @@ impl<'a> SpelledValue<'a> {
 /// bytes.
 #[derive(Drop)]
 pub(crate) struct KeptValue {
-    bytes: SmallVec<u8, SHORT_LENGTH>,
+    pub(crate) bytes: SmallVec<u8, SHORT_LENGTH>,
 }
 
 impl Model for KeptValue {
@@ -89,23 +89,14 @@ impl KeptValue {
         requires { IsTrue (is_value bytes.now) }
         ensures { IfOk result (λ kept. kept ≡ bytes.now) }
     {
-        Ok(KeptValue {
-            bytes: SmallVec::from_slice(alloc, bytes)?,
-        })
-    }
-
-    /// Its bytes.
-    pub(crate) fn as_bytes(&self) -> &[u8]
-        ensures value { result.now ≡ self.now }
-        ensures lawful { IsTrue (is_value self.now) }
-    {
-        self.bytes.as_slice()
+        let bytes = SmallVec::from_slice(alloc, bytes)?;
+        Ok(KeptValue { bytes })
     }
 
     /// An equal one, which shares nothing with this one.
     pub(crate) fn copied(&self, alloc: Global) -> Result<KeptValue, AllocError>
         ensures { IfOk result (λ copy. copy ≡ self.now) }
     {
-        KeptValue::of(alloc, self.as_bytes())
+        KeptValue::of(alloc, self.bytes.as_slice())
     }
 }

@@ -1,13 +1,13 @@
 //! A variable of a UPS.
 ghost use Rattle.std.specs.Prelude.{◌≡◌, ◌≤◌, length, IfOk, IsTrue};
 ghost use Rattle.nutwords.specs.Reading.{is_value};
-ghost use Rattle.nutdriver.specs.Variable.{VariableState, with_value, with_aux, with_flags, add_enum, delete_enum, add_range, delete_range, has_value, has_range};
+ghost use Rattle.nutdriver.specs.Variable.{VariableState, with_value, with_aux, with_flags, add_enum, delete_enum, add_range, delete_range};
 ghost use Rattle.nutdriver.specs.Kind.{variable_of, with_kind, with_lists};
 ghost use Rattle.nutdriver.specs.Promises.{AnswersChange, variable_step};
 
 use crate::kept::KeptValue;
 use crate::kind::Kind;
-use crate::lists::{Lists, has_range, has_value, take_range_out, take_value_out};
+use crate::lists::{Lists, take_range_out, take_value_out};
 use crate::{DriverFault, DriverLine, ENUM_LIMIT, Flags, RANGE_LIMIT, Range, SpelledValue};
 use nutwords::Value;
 use std::alloc::{AllocError, Global};
@@ -58,7 +58,7 @@ impl Variable {
         ensures value { result.now ≡ self.now.value }
         ensures lawful { IsTrue (is_value self.now.value) }
     {
-        self.value.as_bytes()
+        self.value.bytes.as_slice()
     }
 
     /// Its flags.
@@ -162,7 +162,7 @@ impl Variable {
     fn add_enum(&self, value: &Value) -> Change
         ensures { AnswersChange (add_enum value.now self.now) result }
     {
-        if has_value(self.enum_values(), value) {
+        if self.enum_values().contains(value) {
             return Ok(None);
         }
         if self.enum_values().len() >= ENUM_LIMIT {
@@ -177,7 +177,7 @@ impl Variable {
     fn delete_enum(&self, value: &Value) -> Change
         ensures { AnswersChange (delete_enum value.now self.now) result }
     {
-        if !has_value(self.enum_values(), value) {
+        if !self.enum_values().contains(value) {
             return Err(DriverFault::NoSuchItem);
         }
         let mut lists = self.kind.copied_lists(self.alloc)?;
@@ -189,7 +189,7 @@ impl Variable {
     fn add_range(&self, range: Range) -> Change
         ensures { AnswersChange (add_range range self.now) result }
     {
-        if has_range(self.ranges(), range) {
+        if self.ranges().contains(&range) {
             return Ok(None);
         }
         if self.ranges().len() >= RANGE_LIMIT {
@@ -204,7 +204,7 @@ impl Variable {
     fn delete_range(&self, range: Range) -> Change
         ensures { AnswersChange (delete_range range self.now) result }
     {
-        if !has_range(self.ranges(), range) {
+        if !self.ranges().contains(&range) {
             return Err(DriverFault::NoSuchItem);
         }
         let mut lists = self.kind.copied_lists(self.alloc)?;

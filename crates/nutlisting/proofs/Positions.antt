@@ -55,7 +55,7 @@ position_next content place after offset line h n = record {
   within = begins content after;
 }
 
-in_line : (content : Content) (place after : Place) (offset : ℕ) (line : List ℕ) → IsPosition content place offset → IsNext content place line after → offset < length line
+pub in_line : (content : Content) (place after : Place) (offset : ℕ) (line : List ℕ) → IsPosition content place offset → IsNext content place line after → offset < length line
 in_line content place after offset line h n = subst (λ lines. IsWithin lines offset) n.first h.within
 
 -- some bytes on

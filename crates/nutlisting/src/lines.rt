@@ -76,6 +76,7 @@ fn marked_line_into(kind: &[u8], ups: &UpsName, name: &Name, variable: &Variable
 }
 
 /// Makes the line of a text that belongs to a variable or a command.
+#[tactic(auto, using(crate::proofs::Lawful::lawful_steps))]
 pub fn value_line_into(kind: &[u8], ups: &UpsName, name: &Name, value: &[u8], line: &mut Line)
     requires kind { length kind.now ≤ KIND_LIMIT }
     requires lawful { IsTrue (list_all is_lawful kind.now) }
@@ -85,7 +86,8 @@ pub fn value_line_into(kind: &[u8], ups: &UpsName, name: &Name, value: &[u8], li
         ≡ line_of (kind.now ∷ ups.now ∷ name.now ∷ quoted value.now ∷ []) }
     ensures whole { IsWholeLine line.new.items }
 {
-    named_front(line, kind, ups, name);
+    front(line, kind, ups);
+    push_word(line, name.as_bytes());
     push_quoted(line, value);
     finish(line);
 }
@@ -114,20 +116,24 @@ pub fn described(text: Option<&Value>) -> &[u8]
 }
 
 /// Makes the line of a command.
+#[tactic(auto, using(crate::proofs::Lawful::lawful_steps))]
 pub(crate) fn command_line_into(ups: &UpsName, name: &Name, line: &mut Line)
     ensures text { line.new.items ≡ line_of (command_item ups.now name.now) }
     ensures whole { IsWholeLine line.new.items }
 {
-    named_front(line, b"CMD", ups, name);
+    front(line, b"CMD", ups);
+    push_word(line, name.as_bytes());
     finish(line);
 }
 
 /// Makes the line of a range of a variable.
+#[tactic(auto, using(crate::proofs::Lawful::lawful_steps))]
 pub(crate) fn range_line_into(ups: &UpsName, name: &Name, range: Range, line: &mut Line)
     ensures text { line.new.items ≡ line_of (range_item ups.now name.now range) }
     ensures whole { IsWholeLine line.new.items }
 {
-    named_front(line, b"RANGE", ups, name);
+    front(line, b"RANGE", ups);
+    push_word(line, name.as_bytes());
     push_number(line, range.least);
     push_number(line, range.greatest);
     finish(line);
@@ -145,12 +151,14 @@ pub(crate) fn client_line_into(ups: &UpsName, address: &Address, line: &mut Line
 }
 
 /// Makes the line of what values a variable may have.
+#[tactic(auto, using(crate::proofs::Lawful::lawful_steps))]
 pub fn type_line_into(ups: &UpsName, name: &Name, variable: &Variable, line: &mut Line)
     ensures text { line.new.items
         ≡ line_of (codes "TYPE" ∷ ups.now ∷ name.now ∷ type_words variable.now) }
     ensures whole { IsWholeLine line.new.items }
 {
-    named_front(line, b"TYPE", ups, name);
+    front(line, b"TYPE", ups);
+    push_word(line, name.as_bytes());
     types::push_type(line, variable);
     finish(line);
 }
@@ -176,7 +184,8 @@ pub fn progress_line_into(id: u128, progress: Progress, line: &mut Line)
         ≡ line_of (codes "TRACKING" ∷ id_text id ∷ progress_words progress) }
     ensures whole { IsWholeLine line.new.items }
 {
-    begin(line, b"TRACKING");
+    line.clear();
+    line.try_extend_from_slice(b"TRACKING").unwrap();
     push_word(line, &id_text(id));
     push_progress(line, progress);
     finish(line);
@@ -202,20 +211,7 @@ fn push_progress(line: &mut Line, progress: Progress)
     }
 }
 
-/// Begins a line: its kind, and the names of a UPS and of a variable or a command.
-#[tactic(auto, using(crate::proofs::Lawful::lawful_steps))]
-fn named_front(line: &mut Line, kind: &[u8], ups: &UpsName, name: &Name)
-    requires kind { length kind.now ≤ KIND_LIMIT }
-    requires lawful { IsTrue (list_all is_lawful kind.now) }
-    ensures text { line.new.items ≡ join_with_byte 32 (kind.now ∷ ups.now ∷ name.now ∷ []) }
-    ensures short { length line.new.items ≤ FRONT_LIMIT }
-    ensures lawful { IsTrue (list_all is_lawful line.new.items) }
-{
-    front(line, kind, ups);
-    push_word(line, name.as_bytes());
-}
-
-/// Begins a line: its kind and the name of a UPS.
+/// Begins a line by its kind and the name of a UPS, in place of what the line held.
 #[tactic(auto, using(crate::proofs::Lawful::lawful_steps))]
 fn front(line: &mut Line, kind: &[u8], ups: &UpsName)
     requires kind { length kind.now ≤ KIND_LIMIT }
@@ -224,17 +220,9 @@ fn front(line: &mut Line, kind: &[u8], ups: &UpsName)
     ensures short { length line.new.items ≤ UPS_FRONT_LIMIT }
     ensures lawful { IsTrue (list_all is_lawful line.new.items) }
 {
-    begin(line, kind);
-    push_word(line, ups.as_bytes());
-}
-
-/// Begins a line by words of at most 128 bytes, in place of what the line held.
-pub(crate) fn begin(line: &mut Line, text: &[u8])
-    requires { length text.now ≤ 128 }
-    ensures { line.new.items ≡ text.now }
-{
     line.clear();
-    line.try_extend_from_slice(text).unwrap();
+    line.try_extend_from_slice(kind).unwrap();
+    push_word(line, ups.as_bytes());
 }
 
 /// Appends words of at most 128 bytes.

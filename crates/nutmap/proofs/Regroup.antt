@@ -12,6 +12,9 @@ module _ {K V : Type 0} where
     pub left_rises : (l m : List (K × V)) → HasRisingKeys R (l ++ m) → HasRisingKeys R l
     left_rises l m s = record { rising = rising_left R l m s.rising }
 
+    pub left_of_three_rises : (a : List (K × V)) (x : K × V) (ml : List (K × V)) (m : K × V) (mr : List (K × V)) → HasRisingKeys R (a ++ x ∷ (ml ++ m ∷ mr)) → HasRisingKeys R (a ++ x ∷ ml)
+    left_of_three_rises a x ml m mr s = left_rises (a ++ x ∷ ml) (m ∷ mr) (subst (λ (l : List (K × V)). HasRisingKeys R l) (sym (append_assoc a (x ∷ ml) (m ∷ mr))) s)
+
     pub right_rises : (l : List (K × V)) (e : K × V) (r : List (K × V)) → HasRisingKeys R (l ++ e ∷ r) → HasRisingKeys R r
     right_rises l e r s = record { rising = rising_tail R e r (rising_right R l (e ∷ r) s.rising) }
 

@@ -72,10 +72,7 @@ impl<K: Ord + Drop, V: Drop> Map<K, V> {
     pub fn get(&self, key: &K) -> Option<&V>
         ensures { option_copied result ≡ value_at K.cmp self.now key.now }
     {
-        match find::value(&self.root, key) {
-            None => None,
-            Some(value) => Some(&**value),
-        }
+        Some(&**find::value(&self.root, key)?)
     }
 
     // The same, shared.

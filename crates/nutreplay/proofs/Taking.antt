@@ -40,10 +40,8 @@ takes_again line p n old mid new e some h rest =
     again old mid new more (subst (λ (m : ℕ). Happens line (took p m) old mid) e h) rest
 
 -- the first taking, of the transcript as its fields say
-pub first_time : (line : ℕ) (p : Peer) (n : ℕ) (t fields : TranscriptState) (s : ServerState) (mid : TranscriptState) → fields ≡ t → s ≡ fields.server → n ≡ count_offered p fields → Happens line (took p n) (record fields { server = s }) mid → Happens line (took p (count_offered p t)) t mid
-first_time line p n t fields s mid is same count h =
-    let first : Happens line (took p (count_offered p fields)) fields mid = subst (λ (m : ℕ). Happens line (took p m) fields mid) count (subst (λ (z : ServerState). Happens line (took p n) (record fields { server = z }) mid) same h) in
-    subst (λ (z : TranscriptState). Happens line (took p (count_offered p z)) z mid) is first
+pub first_time : (line : ℕ) (p : Peer) (n : ℕ) (t fields mid : TranscriptState) → fields ≡ t → n ≡ count_offered p fields → Happens line (took p n) t mid → Happens line (took p (count_offered p t)) t mid
+first_time line p n t fields mid is count h = subst (λ (m : ℕ). Happens line (took p m) t mid) (count ∙ ap (count_offered p) is) h
 
 -- what is taken, by the session
 pub client_taken_of : (c n : ℕ) (s : ServerState) (o : Option SessionState) → session c s ≡ o → taken_in_event c s (Took c n) ≡ (if may_take o n then take n (owed_of o) else [])

@@ -89,10 +89,7 @@ pub fn replay<W: Sink>(
         (fault ≡ ReplayFault.Write) ⊎ (out.new ≡ out.old)) }
 {
     let text = transcript(alloc, list, users, descriptions, script)?;
-    match send(out, &text) {
-        Ok(()) => Ok(()),
-        Err(_) => Err(ReplayFault::Write),
-    }
+    send(out, &text).map_err(|_| ReplayFault::Write)
 }
 
 /// The transcript of a script.

@@ -5,7 +5,7 @@ ghost use Rattle.nutcore.specs.Server.{session, ups_at};
 ghost use Rattle.nutcore.specs.History.{taken_in_event};
 ghost use Rattle.nutcore.specs.DriverOrders.{taken_in_event as driver_taken_in_event};
 ghost use Rattle.nutreplay.specs.Script.{took};
-ghost use Rattle.nutreplay.specs.Transcript.{new_transcript, note_of_refusal, note_of_held, held_count, held_total, note_of, opened_by, taken_by, Happens, TakesAll, IsDone, AreDone, offered_to, count_offered, whole_text};
+ghost use Rattle.nutreplay.specs.Transcript.{new_transcript, note_of_refusal, held_count, held_total, note_of, opened_by, taken_by, Happens, TakesAll, IsDone, AreDone, offered_to, count_offered, whole_text};
 
 mod sent;
 
@@ -131,35 +131,29 @@ impl Transcript {
             Outcome::Refused(fault) => self.note_refusal(line, fault),
             Outcome::Fed(n) => match event {
                 Event::Feed(_, piece) if n < piece.as_slice().len() => {
-                    self.note_held(line, n, piece.as_slice().len())
+                    self.note_held_count(line, n)?;
+                    self.note_held_total(piece.as_slice().len())
                 }
                 _ => Ok(()),
             },
         }
     }
 
-    /// Notes that only n bytes of a feed were taken.
-    fn note_held(&mut self, line: usize, n: usize, all: usize) -> Result<(), AllocError>
-        ensures { OnOk result (self.new
-            ≡ record self.old { text = self.old.text ++ note_of_held line n all }) }
-    {
-        self.note_held_count(line, n)?;
-        self.note_held_total(all)
-    }
-
-    fn note_held_total(&mut self, all: usize) -> Result<(), AllocError>
-        ensures { OnOk result (self.new
-            ≡ record self.old { text = self.old.text ++ held_total all }) }
-    {
-        let text = format!(in self.alloc; " of {all} bytes held\n")?;
-        self.text.extend_from_slice(text.as_bytes())
-    }
-
+    /// Notes how many bytes of a feed were taken, where that isn't all.
     fn note_held_count(&mut self, line: usize, n: usize) -> Result<(), AllocError>
         ensures { OnOk result (self.new
             ≡ record self.old { text = self.old.text ++ held_count line n }) }
     {
         let text = format!(in self.alloc; "line {line}: {n}")?;
+        self.text.extend_from_slice(text.as_bytes())
+    }
+
+    /// Notes how many bytes such a feed has.
+    fn note_held_total(&mut self, all: usize) -> Result<(), AllocError>
+        ensures { OnOk result (self.new
+            ≡ record self.old { text = self.old.text ++ held_total all }) }
+    {
+        let text = format!(in self.alloc; " of {all} bytes held\n")?;
         self.text.extend_from_slice(text.as_bytes())
     }
 
@@ -177,7 +171,7 @@ impl Transcript {
     fn take_all(&mut self, line: usize, peer: Peer) -> Result<(), AllocError>
         ensures { OnOk result (TakesAll line peer self.old self.new) }
     {
-        let n = count_offered(&mut self.server, peer);
+        let n = count_offered(&self.server, peer);
         let mut left = self.take(line, peer, n)?;
         while left > 0 {
             left = self.take(line, peer, left)?;
@@ -192,7 +186,7 @@ impl Transcript {
         ensures few { OnOk result (length self.new.taken < 2 ^ 64) }
     {
         self.event(line, &took(peer, n))?;
-        Ok(count_offered(&mut self.server, peer))
+        Ok(count_offered(&self.server, peer))
     }
 
     /// The whole text.
@@ -214,15 +208,11 @@ impl Transcript {
 }
 
 /// How many bytes a client or a driver is offered: none where there is no such client or UPS.
-fn count_offered(server: &mut Server, peer: Peer) -> usize
-    ensures count { result ≡ length (offered_to peer server.old.state) }
-    ensures same { server.new ≡ server.old }
+fn count_offered(server: &Server, peer: Peer) -> usize
+    ensures { result ≡ length (offered_to peer server.now.state) }
 {
     match peer {
-        Peer::Client(c) => match server.offer(c) {
-            Ok(bytes) => bytes.len(),
-            Err(_) => 0,
-        },
+        Peer::Client(c) => server.offered(c).unwrap_or(0),
         Peer::Driver(u) => server.driver_offered(u).unwrap_or(0),
     }
 }

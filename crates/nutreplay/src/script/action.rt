@@ -1,7 +1,7 @@
 //! What one line of a script asks for.
-ghost use Rattle.std.specs.Prelude.{◌≡◌, ◌<◌, ◌==◌, ℕ, length, position, IfOk, IfSome, MatchOption, None, Some};
+ghost use Rattle.std.specs.Prelude.{◌≡◌, ◌<◌, ◌==◌, length, position, IfOk, IfSome, MatchOption, None, Some};
 ghost use Rattle.std.specs.Option.{option_map};
-ghost use Rattle.nutreplay.specs.Script.{split_at_space, number, ups, address, driver_and_rest, client_and_rest, took, taking, sending, hex_bytes, bytes_of, event_of, client_event, action_of, read_line};
+ghost use Rattle.nutreplay.specs.Script.{split_at_space, number, ups, driver_and_rest, client_and_rest, took, taking, sending, hex_bytes, bytes_of, event_of, client_event, action_of, read_line};
 
 use hex::FromHexError;
 use nutcore::{Bytes, Event, Peer, UpsId, UpsList};
@@ -90,7 +90,9 @@ fn client_event(alloc: Global, verb: &[u8], text: &[u8]) -> Result<Option<Event>
 {
     let client = client_and_rest(text);
     match verb {
-        _ if verb == b"open".as_slice() => Ok(address(text).map(|from| Event::Open(from))),
+        _ if verb == b"open".as_slice() => Ok(
+            Address::read(text).ok().map(|from| Event::Open(from)),
+        ),
         _ if verb == b"client".as_slice() => sending(alloc, Form::Line, client),
         _ if verb == b"part".as_slice() => sending(alloc, Form::Part, client),
         _ if verb == b"client-hex".as_slice() => sending(alloc, Form::Hex, client),
@@ -198,12 +200,6 @@ fn ups(list: &UpsList, text: &[u8]) -> Option<UpsId>
         Some(u) => u,
         None => UpsId { place: UNLISTED },
     })
-}
-
-fn address(text: &[u8]) -> Option<Address>
-    ensures { result ≡ address text.now }
-{
-    Address::read(text).ok()
 }
 
 /// The bytes before the first space and those after it.

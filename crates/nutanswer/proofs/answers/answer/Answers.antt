@@ -3,9 +3,10 @@ use Rattle.std.specs.Prelude.{codes}
 use Rattle.nutanswer.specs.View.{asker_seen}
 use Rattle.nutanswer.specs.declared.reply.Change.TheVariants.{Ending}
 use Rattle.nutanswer.specs.Answer.{answer_to, help_text}
-use Rattle.nutanswer.proofs.Carried.{given, given_seen, given_listing, ups_listed, own, own_line}
+use Rattle.nutanswer.specs.Promises.{GivesReply}
+use Rattle.nutanswer.proofs.Carried.{carried, given, given_seen, given_listing, ups_listed, own, own_line}
 use Rattle.nutanswer.proofs.answers.answer.Goals as goal
-use Rattle.nutanswer.proofs.answers.answer.Goals.{in-Username, in-Password, in-Login, in-Logout, in-Primary, in-Fsd, in-SetVar, in-InstCmd, in-SetTracking, in-GetVar, in-GetType, in-GetDesc, in-GetCmdDesc, in-GetUpsDesc, in-GetNumLogins, in-GetNumAttach, in-GetTracking, in-GetProgress, in-ListClient, in-Help, in-Ver, in-StartTls, in-NetVer}
+use Rattle.nutanswer.proofs.answers.answer.Goals.{in-Username, in-Password, in-Login, in-Logout, in-Primary, in-Fsd, in-SetVar, in-InstCmd, in-SetTracking, in-GetVar, in-GetType, in-GetDesc, in-GetCmdDesc, in-GetUpsDesc, in-GetNumLogins, in-GetNumAttach, in-GetTracking, in-GetProgress, in-ListClient, in-Help, in-Ver, in-StartTls, in-NetVer, in-Ok, in-Err}
 
 pub plain-row-requires : goal.plain-row-requires
 plain-row-requires g c = own_line help_text refl refl
@@ -20,7 +21,7 @@ pub returns-clause-ok : goal.returns-clause-ok
 returns-clause-ok g c =
     let s = g.V.View.seen c.args.view.now in
     let a = asker_seen c.args.asker in
-    c.given.ensures s (answer_to s a c.args.command.now) (elim c.match-command.branch [
+    let row : GivesReply s (answer_to s a c.args.command.now) c.match-command.row = elim c.match-command.branch [
       | in-Username w ↦ given s a _ _ _ _ w.in-Username.is w.row-is (w.username-row.ensures s)
       | in-Password w ↦ given s a _ _ _ _ w.in-Password.is w.row-is (w.password-row.ensures s)
       | in-Login w ↦ given s a _ _ _ _ w.in-Login.is w.row-is w.login-row.ensures
@@ -47,7 +48,11 @@ returns-clause-ok g c =
       ]
       | in-StartTls w ↦ given s a _ _ _ _ w.in-StartTls.is w.row-is refl
       | in-ListClient w ↦ given_seen s a _ _ _ _ w.in-ListClient.is w.row-is w.list_client-row.ensures
-    ])
+    ] in
+    elim c.match-row.branch [
+      | in-Ok w ↦ rw w.result-is (rw w.in-Ok.is at row)
+      | in-Err w ↦ rw w.result-is (carried s _ w.refused.result (w.refused.ensures _ (rw w.in-Err.is at row)))
+    ]
 
 pub returns-in-ListUps-clause-ok : goal.returns-in-ListUps-clause-ok
 returns-in-ListUps-clause-ok g c =

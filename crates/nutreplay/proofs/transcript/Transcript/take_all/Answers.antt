@@ -1,5 +1,4 @@
-use Rattle.std.proofs.Common.{ap, arith}
-use Rattle.nutcore.specs.Cost.{RunningServer}
+use Rattle.std.proofs.Common.{arith}
 use Rattle.nutreplay.specs.Transcript.TakesAgain.{all_taken}
 use Rattle.nutreplay.proofs.Taking.{taken_longer, takes_again, first_time}
 use Rattle.nutreplay.proofs.transcript.Transcript.take_all.Goals as goal
@@ -16,4 +15,4 @@ loop-left-preserved c = record {
 }
 
 pub returns : goal.returns
-returns c = (c.take.new.self, first_time c.args.line c.args.peer _ _ _ _ _ c.self.view_is (ap (λ (r : RunningServer). r.state) c.count_offered-n.ensures.same) c.count_offered-n.ensures.count c.in_ok-left.ensures.happens, c.loop-left.invariant.ends _ (all_taken _ (omega (arith, c.loop-left.invariant.count, c.loop-left-test.false))))
+returns c = (c.take.new.self, first_time c.args.line c.args.peer _ _ _ _ c.self.view_is c.count_offered-n.ensures c.in_ok-left.ensures.happens, c.loop-left.invariant.ends _ (all_taken _ (omega (arith, c.loop-left.invariant.count, c.loop-left-test.false))))
