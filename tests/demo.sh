@@ -1,6 +1,6 @@
 #!/usr/bin/env bash
 # `make demo`: living data within 3 seconds, a power failure that passes by the very commands that it prints, how tracked orders
-# end, and nothing that stays behind: no file, and no program. Its driver serves two at once, and takes a dead one's place.
+# end, and nothing that stays behind: no file, and no program. Its driver takes a dead one's place.
 set -euo pipefail
 # shellcheck source=tests/built.bash
 source "$(dirname "${BASH_SOURCE[0]}")/built.bash"
@@ -53,18 +53,6 @@ ends 'a status that is none' 'FAILED 2' "$upsrw --track -s ups.status=OX $ups"
 ends 'the command that stops it' SUCCESS "$(printed test.failure.stop) --track"
 shows '^ups\.status: OL CHRG +battery' 30
 within 80 'the power is back' eval "tail -n 1 $folder/said | grep -qE '^ups\.status: OL +battery\.charge: 100\$'"
-
-# Another connection to its driver: an order there is executed, and the server learns of it.
-python3 - "$folder"/room/*/driver <<'PYTHON' || fails 'another connection'
-import socket, sys
-wire = socket.socket(socket.AF_UNIX)
-wire.connect(sys.argv[1])
-wire.settimeout(3)
-wire.sendall(b'DUMPALL\nSET battery.charge.low "55" TRACKING 7\nINSTCMD load.off TRACKING 8\n')
-said = b"".join(wire.recv(4096) for _ in range(3))
-assert b"DATAOK\nTRACKING 7 0\nTRACKING 8 1\n" in said, said
-PYTHON
-within 50 'what another connection set' eval "[[ \$(crates/upsc/out/upsc $ups battery.charge.low) == 55 ]]"
 
 kill "$demo"
 wait "$demo" 2>/dev/null || true

@@ -287,30 +287,6 @@ def refused_lines_of_a_driver_are_told_with_their_number():
         assert good.ask(GET) == STATUS
 
 
-def a_client_is_listed_by_the_address_that_it_comes_from():
-    with served() as (server, _, good):
-        others = [server.client(f"127.0.0.{i}") for i in range(2, 5)]
-        assert all(other.ask(MON + b"LOGIN su\n") == b"OK\n" * 3 for other in others)
-        good.send(b"LIST CLIENT su\n")
-        listed = b"".join(b"CLIENT su 127.0.0.%d\n" % i for i in range(2, 5))
-        assert good.listing() == b"BEGIN LIST CLIENT su\n" + listed + b"END LIST CLIENT su\n"
-        for other in others:
-            other.close()
-        assert comes(lambda: good.ask(b"GET NUMLOGINS su\n") == b"NUMLOGINS su 0\n")
-
-
-def newcomers_are_let_in_as_they_come():
-    with served() as (server, _, _):
-        begin = time.monotonic()
-        for _ in range(5):
-            client = server.client()
-            assert client.ask(GET) == STATUS
-            client.close()
-            time.sleep(0.02)
-        waited = time.monotonic() - begin
-        assert waited < 2, f"they waited {waited:.2f} s"
-
-
 def drivers_are_connected_to_before_it_tells_that_it_listens():
     drivers = [Driver(path(f"{name}.sock")) for name in "de"]
     ups = file("two.conf", "".join(f"[{name}]\nsocket = {path(name)}.sock\n" for name in "de"))

@@ -1,13 +1,16 @@
 //! What requests cost a server of one UPS with 4,096 variables.
 //!
-//! With no words it does a little of each load, and prints how many bytes clients took. With the words of a load and its
+//! With no words it does a little of each load, and prints how many bytes clients took; and what no clause says of the
+//! server: that with ample memory its calls are done, what they cost then, and the texts of faults. With the words of a load and its
 //! counts it does that alone, so that the difference of two runs is the cost of what one of them does more:
 //! `measure.sh` tells it.
 #![tactic(auto)]
 
+mod costs;
 mod loads;
 mod sample;
 
+use crate::costs::{print_costs, print_faults, print_run};
 use crate::loads::{Load, SHORT, run};
 use anyhow::{Error, Result};
 use std::alloc::Global;
@@ -16,7 +19,10 @@ use std::env;
 fn main(rt: HostRuntime) -> Result<()> {
     let words: Vec<String> = env::args(&rt)?.skip(1).collect(rt.alloc())?;
     if words.is_empty() {
-        return print_a_little(&rt, rt.alloc());
+        print_a_little(&rt, rt.alloc())?;
+        print_costs(&rt, rt.alloc())?;
+        print_run(&rt, rt.alloc())?;
+        return print_faults(&rt);
     }
     print_taken(&rt, rt.alloc(), &words)
 }

@@ -6,7 +6,7 @@ use std::alloc::Global;
 use std::fmt::Write;
 
 /// The only UPS.
-const SU: UpsId = UpsId { place: 0 };
+pub const SU: UpsId = UpsId { place: 0 };
 
 /// How many variables the UPS has.
 pub const VARIABLES: u32 = 4096;
@@ -34,7 +34,7 @@ pub struct Sample {
 }
 
 /// A server of the UPS `su` and of one user, with no driver yet.
-fn new_server(alloc: Global) -> Result<Server> {
+pub fn new_server(alloc: Global) -> Result<Server> {
     let list = UpsList::one(alloc, UpsName::read(b"su")?)?;
     let users = Users::read(alloc, USERS).map_err(|_| Error::msg("the users"))?;
     let max_age = MaxAge::read(15).ok_or(Error::msg("the greatest age"))?;
