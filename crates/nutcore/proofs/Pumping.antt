@@ -1,5 +1,5 @@
 -- What one line of a client leaves of the server, and the notice.
-use Rattle.std.proofs.Common.{arith, ◌≡◌, ◌≢◌, ℕ, true, false, List, [], ◌∷◌, Option, Some, None, refl, sym, ◌∙◌, ap, subst, ltb, eqb, ◌<◌, length, take, inl, inr, ◌≤◌, ◌+◌, ◌++◌, length-drop, drop}
+use Rattle.std.proofs.Common.{arith, ◌≡◌, ◌≢◌, ℕ, true, false, List, [], ◌∷◌, Option, Some, None, refl, sym, ◌∙◌, ap, subst, ltb, ◌<◌, length, take, inl, inr, ◌≤◌, ◌+◌, ◌++◌, length-drop, drop}
 use Rattle.std.specs.Prelude.{◌||◌, option_map}
 use Rattle.std.specs.Option.{option_map_or}
 use Rattle.std.proofs.lemmas.Bool.{cases_Bool, cond-true, cond-false}
@@ -58,36 +58,27 @@ few_owed x end h = elim (cases_Bool (x.ending || ltb OWED_LIMIT (length x.owed))
 pub ends_within : (x : SessionState) (bytes : List ℕ) (from end : ℕ) → drop from bytes ≡ x.held → option_map length (next_line x) ≡ Some end → from + end + 1 ≤ length bytes
 ends_within x bytes from end is h = omega (arith, (next_line_ends x end h).1, ap length is, length-drop from bytes)
 
--- what is left once that line is taken
-pub rest_is : (x : SessionState) (bytes line : List ℕ) (from end : ℕ) → drop from bytes ≡ x.held → next_line x ≡ Some line → option_map length (next_line x) ≡ Some end → drop (from + end + 1) bytes ≡ rest_after line x.held
-rest_is x bytes line from end is next ends =
-    let long : length line ≡ end = same_Some (length line) end (ap (option_map length) (sym next) ∙ ends) in
-    let far : from + end + 1 ≡ from + (length line + 1) = omega arith in
-    ap (λ n. drop n bytes) far ∙ sym (drop-drop (length line + 1) from bytes) ∙ ap (drop (length line + 1)) is
-
--- the session with that line taken, and a text joined to what it owes
-pub joined_is : (old t : SessionState) (line text held bytes : List ℕ) → t ≡ old → held ≡ rest_after line old.held → bytes ≡ t.owed ++ text → (let y : SessionState = record t { held = held; owed = bytes } in y ≡ answered line text old)
-joined_is old t line text held bytes is rest joined =
-    ap (λ (b : List ℕ). let y : SessionState = record t { held = held; owed = b } in y) joined
-    ∙ ap (λ (h : List ℕ). let y : SessionState = record t { held = h; owed = t.owed ++ text } in y) rest
-    ∙ ap (λ (z : SessionState). let y : SessionState = record z { held = rest_after line old.held; owed = z.owed ++ text } in y) is
+-- what is owed stays while that line is taken and a change is made
+pub owed_stays : (change : Change) (old t v : SessionState) (held : List ℕ) → t ≡ old → v ≡ changed_session change (let mid : SessionState = record t { held = held } in mid) → v.owed ≡ old.owed
+owed_stays change old t v held is made = let mid : SessionState = record t { held = held } in ap (λ (z : SessionState). z.owed) made ∙ (keeps change mid).owed ∙ ap (λ (z : SessionState). z.owed) is
 
 -- a text joined after a change is one joined before
-pub owed_after : (change : Change) (x : SessionState) (text : List ℕ) → (let y : SessionState = changed_session change x in let z : SessionState = record y { owed = y.owed ++ text } in z) ≡ changed_session change (let w : SessionState = record x { owed = x.owed ++ text } in w)
+owed_after : (change : Change) (x : SessionState) (text : List ℕ) → (let y : SessionState = changed_session change x in let z : SessionState = record y { owed = y.owed ++ text } in z) ≡ changed_session change (let w : SessionState = record x { owed = x.owed ++ text } in w)
 owed_after change x text = grind arith
 
--- the session with that line taken, this change made, and a text joined to what it owes
-pub one_answered : (change : Change) (old t v : SessionState) (line text held bytes : List ℕ) → t ≡ old → held ≡ rest_after line old.held → v ≡ changed_session change (let mid : SessionState = record t { held = held } in mid) → bytes ≡ v.owed ++ text → (let y : SessionState = record v { owed = bytes } in y ≡ changed_session change (answered line text old))
-one_answered change old t v line text held bytes is rest made joined =
-    let mid : SessionState = record t { held = held } in
+-- that line is taken, this change made, and then a text joined to what is owed: the line is answered
+pub line_answered : (change : Change) (old t v : SessionState) (bytes : List ℕ) (from end : ℕ) (line text owed : List ℕ) → t ≡ old → drop from bytes ≡ t.held → option_map length (next_line old) ≡ Some end → next_line old ≡ Some line
+    → v ≡ changed_session change (let mid : SessionState = record t { held = drop (from + end + 1) bytes } in mid) → owed ≡ v.owed ++ text → (let y : SessionState = record v { owed = owed } in y ≡ changed_session change (answered line text old))
+line_answered change old t v bytes from end line text owed is left ends next made joined =
+    let mid : SessionState = record t { held = drop (from + end + 1) bytes } in
+    let long : length line ≡ end = same_Some (length line) end (ap (option_map length) (sym next) ∙ ends) in
+    let far : from + end + 1 ≡ from + (length line + 1) = omega arith in
+    let rest = ap (λ n. drop n bytes) far ∙ sym (drop-drop (length line + 1) from bytes) ∙ ap (drop (length line + 1)) (left ∙ ap (λ (z : SessionState). z.held) is) in
     ap (λ (b : List ℕ). let y : SessionState = record v { owed = b } in y) joined
     ∙ ap (λ (z : SessionState). let y : SessionState = record z { owed = z.owed ++ text } in y) made
     ∙ owed_after change mid text
-    ∙ ap (changed_session change) (joined_is old t line text held (t.owed ++ text) is rest refl)
-
-pub none_joined : (text : List ℕ) → eqb (length text) 0 ≡ true → text ≡ []
-none_joined [] h = refl
-none_joined (b ∷ text) h = grind (arith, nat_tests)
+    ∙ ap (λ (h : List ℕ). changed_session change (let y : SessionState = record t { held = h; owed = t.owed ++ text } in y)) rest
+    ∙ ap (λ (z : SessionState). changed_session change (let y : SessionState = record z { held = rest_after line old.held; owed = z.owed ++ text } in y)) is
 
 pub ruleset taking = (few_owed, ends_within)
 
