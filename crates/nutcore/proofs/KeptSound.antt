@@ -1,11 +1,9 @@
 -- What a method puts in place of one session or of one UPS keeps the server sound.
-use Rattle.std.proofs.Common.{◌≡◌, ◌≤◌, ℕ, true, List, [], Some, Result, refl, sym, ◌∙◌, subst, set, length, arith}
+use Rattle.std.proofs.Common.{◌≡◌, ℕ, true, List, [], Some, Result, refl, sym, ◌∙◌, subst, set, length, arith}
 use Rattle.std.specs.Prelude.{option_map}
 use denote.Ref.{MutBor}
 use Rattle.std.specs.Fn.{Once, FnOnceReturnsAtMut}
-use Rattle.nutwords.specs.Found.{Finds}
 use Rattle.nutwords.specs.declared.cut.Found.{Found}
-use Rattle.nutwords.specs.declared.limits.TheConstants.{LINE_LIMIT}
 use Rattle.nutdriver.specs.declared.report.LineOutcome.{LineOutcome}
 use Rattle.nutdriver.specs.Tree.{empty_tree}
 use Rattle.nutdriver.specs.Sound.{IsSoundTree, EachLineKeepsTheTreeSound}
@@ -79,10 +77,7 @@ changes_kept v change xs t e f fits h = grind (arith, of_tracking IsTracked chan
 pub driver_taken_kept : (m n : ℕ) (x y : UpsState) (r : Result (Unit {0}) Fault) → IsTaken n x r y → IsSoundUps m x → IsSoundUps m y
 driver_taken_kept m n x y r taken h = grind (arith, sound_fewer m n x h)
 
--- its next line is looked for: what is held after that is no longer than a line
-cut_short : (held piece after : List ℕ) (r : Found) → Finds held piece r after → length after ≤ LINE_LIMIT
-cut_short held piece after r finds = grind arith
-
+-- its next line is looked for
 pub driver_cut_kept : (m : ℕ) (piece : List ℕ) (x y : UpsState) (r : Found) → IsCut piece x r y → x.report.connected ≡ true → IsSoundUps m x → IsSoundUps m y
 driver_cut_kept m piece x y r cut connected h = grind arith
 

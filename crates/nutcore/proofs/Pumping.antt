@@ -1,9 +1,10 @@
 -- What one line of a client leaves of the server, and the notice.
-use Rattle.std.proofs.Common.{arith, ◌≡◌, ◌≢◌, ℕ, true, false, List, [], ◌∷◌, Option, Some, None, refl, sym, ◌∙◌, ap, subst, ltb, ◌<◌, length, take, inl, inr, ◌≤◌, ◌+◌, length-drop, drop}
+use Rattle.std.proofs.Common.{arith, ◌≡◌, ◌≢◌, ℕ, true, false, List, [], ◌∷◌, Option, Some, None, refl, sym, ◌∙◌, ap, subst, ltb, ◌<◌, length, take, inl, inr, ◌≤◌, ◌+◌, ◌++◌, length-drop, drop}
 use Rattle.std.specs.Prelude.{◌||◌, option_map}
 use Rattle.std.specs.Option.{option_map_or}
 use Rattle.std.proofs.lemmas.Bool.{cases_Bool, cond-true, cond-false}
-use Rattle.nutcore.proofs.Common.{Change, SessionState, ServerState, session, with_session, with_session_changed, cond_both}
+use Rattle.std.proofs.lemmas.List.{drop-drop}
+use Rattle.nutcore.proofs.Common.{Change, SessionState, ServerState, same_Some, session, with_session, with_session_changed, cond_both}
 use Rattle.nutanswer.specs.Command.{read_command}
 use Rattle.nutlisting.specs.declared.outbox.TheConstants.{OWED_LIMIT}
 use Rattle.nutcore.specs.Session.{find, put}
@@ -15,7 +16,8 @@ use Rattle.nutcore.proofs.Progress.{presence}
 use Rattle.nutcore.proofs.Found.{cases_Option, find_id, find_put_other, put_put, put_found}
 use Rattle.nutcore.proofs.Changed.{session_put, at_client, by_change, change_is}
 use Rattle.nutwords.proofs.PublicLaws.{first_line_is_the_front_of_its_length}
-use Rattle.nutwords.specs.SplitLine.{first_line}
+use Rattle.nutwords.specs.SplitLine.{first_line, rest_after}
+use Rattle.std.proofs.lemmas.Bool.Decides.{nat_tests}
 
 -- the server in which this session, the UPSs and what is tracked are changed
 abbrev pub line_done : ServerState → Change → SessionState → ServerState
@@ -45,9 +47,40 @@ is_next s c line h = elim (cases_Option (session c s)) [
 pub next_line_ends : (x : SessionState) (end : ℕ) → option_map length (next_line x) ≡ Some end → (next_line x ≡ Some (take end x.held)) × (end < length x.held)
 next_line_ends x end h = elim (cases_Bool (x.ending || ltb OWED_LIMIT (length x.owed))) [ inl waits ↦ cc (rw waits at h) | inr asks ↦ rw asks (first_line_is_the_front_of_its_length x.held end (rw asks at h)) ]
 
--- where these bytes are what is left of others, their first line ends within those
-pub ends_within : (bytes held : List ℕ) (from end : ℕ) → drop from bytes ≡ held → option_map length (first_line held) ≡ Some end → from + end + 1 ≤ length bytes
-ends_within bytes held from end is h = omega (arith, (first_line_is_the_front_of_its_length held end h).1, ap length is, length-drop from bytes)
+-- where there is a next line, at most so many bytes are owed
+pub few_owed : (x : SessionState) (end : ℕ) → option_map length (next_line x) ≡ Some end → length x.owed ≤ OWED_LIMIT
+few_owed x end h = elim (cases_Bool (x.ending || ltb OWED_LIMIT (length x.owed))) [ inl waits ↦ cc (rw waits at h) | inr asks ↦ leb_from_ltb x.owed asks ]
+  where
+    leb_from_ltb : (owed : List ℕ) → (x.ending || ltb OWED_LIMIT (length owed)) ≡ false → length owed ≤ OWED_LIMIT
+    leb_from_ltb owed h = grind (arith, nat_tests)
+
+-- where its held bytes are what is left of others, its next line ends within those
+pub ends_within : (x : SessionState) (bytes : List ℕ) (from end : ℕ) → drop from bytes ≡ x.held → option_map length (next_line x) ≡ Some end → from + end + 1 ≤ length bytes
+ends_within x bytes from end is h = omega (arith, (next_line_ends x end h).1, ap length is, length-drop from bytes)
+
+-- what is owed stays while that line is taken and a change is made
+pub owed_stays : (change : Change) (old t v : SessionState) (held : List ℕ) → t ≡ old → v ≡ changed_session change (let mid : SessionState = record t { held = held } in mid) → v.owed ≡ old.owed
+owed_stays change old t v held is made = let mid : SessionState = record t { held = held } in ap (λ (z : SessionState). z.owed) made ∙ (keeps change mid).owed ∙ ap (λ (z : SessionState). z.owed) is
+
+-- a text joined after a change is one joined before
+owed_after : (change : Change) (x : SessionState) (text : List ℕ) → (let y : SessionState = changed_session change x in let z : SessionState = record y { owed = y.owed ++ text } in z) ≡ changed_session change (let w : SessionState = record x { owed = x.owed ++ text } in w)
+owed_after change x text = grind arith
+
+-- that line is taken, this change made, and then a text joined to what is owed: the line is answered
+pub line_answered : (change : Change) (old t v : SessionState) (bytes : List ℕ) (from end : ℕ) (line text owed : List ℕ) → t ≡ old → drop from bytes ≡ t.held → option_map length (next_line old) ≡ Some end → next_line old ≡ Some line
+    → v ≡ changed_session change (let mid : SessionState = record t { held = drop (from + end + 1) bytes } in mid) → owed ≡ v.owed ++ text → (let y : SessionState = record v { owed = owed } in y ≡ changed_session change (answered line text old))
+line_answered change old t v bytes from end line text owed is left ends next made joined =
+    let mid : SessionState = record t { held = drop (from + end + 1) bytes } in
+    let long : length line ≡ end = same_Some (length line) end (ap (option_map length) (sym next) ∙ ends) in
+    let far : from + end + 1 ≡ from + (length line + 1) = omega arith in
+    let rest = ap (λ n. drop n bytes) far ∙ sym (drop-drop (length line + 1) from bytes) ∙ ap (drop (length line + 1)) (left ∙ ap (λ (z : SessionState). z.held) is) in
+    ap (λ (b : List ℕ). let y : SessionState = record v { owed = b } in y) joined
+    ∙ ap (λ (z : SessionState). let y : SessionState = record z { owed = z.owed ++ text } in y) made
+    ∙ owed_after change mid text
+    ∙ ap (λ (h : List ℕ). changed_session change (let y : SessionState = record t { held = h; owed = t.owed ++ text } in y)) rest
+    ∙ ap (λ (z : SessionState). changed_session change (let y : SessionState = record z { held = rest_after line old.held; owed = z.owed ++ text } in y)) is
+
+pub ruleset taking = (few_owed, ends_within)
 
 -- where there is no next line, nothing happens
 pub stopped_none : (s : ServerState) (c : ℕ) → next_line_for s c ≡ None → after_line s c ≡ s

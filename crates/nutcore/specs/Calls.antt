@@ -3,6 +3,7 @@ use Rattle.std.specs.Prelude.{◌≡◌, ℕ, Bool, List, Result, Ok, Err, Optio
 use Rattle.std.specs.Prelude.{◌==◌, if◌then◌else◌, length, take}
 use Rattle.nutcore.specs.declared.TheConstants.{HELD_LIMIT}
 use Rattle.nutcore.specs.declared.event.Outcome.{Outcome}
+use Rattle.nutcore.specs.declared.standing.Standing.{Standing}
 use Rattle.nutcore.specs.declared.event.Outcome.TheVariants.{Done, Fed, Opened, Refused}
 use Rattle.nutcore.specs.declared.event.Fault.{Fault}
 use Rattle.nutcore.specs.declared.event.Fault.TheVariants.{NoSuchUps, NoSuchClient}
@@ -30,6 +31,15 @@ is_finished x = x.ending && (length x.owed == 0)
 -- How many bytes the session takes in now. An ending one takes and drops any.
 abbrev pub room_of : SessionState → ℕ
 room_of x = if x.ending then HELD_LIMIT else HELD_LIMIT - length x.held
+
+-- How a client stands with the server.
+abbrev pub standing_of : SessionState → Standing
+standing_of x =
+    record {
+      offered = length (take RING_LIMIT x.owed);
+      room = room_of x;
+      is_finished = is_finished x;
+    }
 
 -- The call reads this off the client's session, and is refused exactly where the client isn't open.
 abbrev pub Reads : {A : Type 0} → (SessionState → A) → Option SessionState → Result A Fault → Type 0

@@ -38,6 +38,5 @@ pub mod TellingLines
 pub mod AnswersApart
 pub mod Limits
 pub mod Calls
-pub mod Status
 pub mod Promises
 pub mod Examples

@@ -47,7 +47,8 @@ use std::marker::Model;
 pub struct Server {
     alloc: Global,
     moment: u64,
-    max_age: MaxAge,
+    /// The greatest age of what a driver reported, in seconds.
+    max_age: u32,
     list: UpsList,
     users: Users,
     descriptions: Descriptions,
@@ -107,7 +108,7 @@ impl Server {
         Ok(Server {
             alloc,
             moment: 0,
-            max_age,
+            max_age: max_age.seconds(),
             list,
             users,
             descriptions,
@@ -190,7 +191,7 @@ impl Server {
     {
         self.forget();
         let was = self.look(u);
-        if self.ups_of(u)?.is_connected() {
+        if self.ups_of(u)?.report.connected {
             return Err(Fault::AlreadyConnected);
         }
         lawful_lines_keep_trees_sound();
@@ -241,7 +242,7 @@ impl Server {
             return Err(Fault::NoSuchUps);
         }
         let ups = &self.upses[u.place as usize];
-        Ok(ups.offer())
+        Ok(ups.owed.as_slice())
     }
 
     /// How many bytes are offered to the driver.
@@ -252,7 +253,7 @@ impl Server {
     pub fn driver_offered(&self, u: UpsId) -> Result<usize, Fault>
         ensures { ReadsUps (λ x. length x.owed) (ups_at u.place self.now.state) result }
     {
-        Ok(self.ups_of(u)?.offer().len())
+        Ok(self.ups_of(u)?.owed.len())
     }
 
     /// The driver took n bytes of what it is offered. Takes no memory.
@@ -300,11 +301,11 @@ impl Server {
         ensures notes { IsNoted self.old.state (Event.Tick seconds) Outcome.Done self.new }
     {
         self.forget();
-        let max_age = self.max_age.seconds();
         let moment = seconds.max(self.moment);
-        note_stale(&self.upses, max_age, self.moment, moment, &mut self.notes);
+        let notes = &mut self.notes;
+        note_stale(&self.upses, self.max_age, self.moment, moment, notes);
         self.moment = moment;
-        ping_upses(&mut self.upses, max_age, moment);
+        ping_upses(&mut self.upses, self.max_age, moment);
     }
 
     /// How many lines of the UPS's drivers were refused. The count stops at its greatest number,
@@ -316,7 +317,7 @@ impl Server {
     pub fn driver_faults(&self, u: UpsId) -> Result<u64, Fault>
         ensures { ReadsUps (λ x. x.faulty) (ups_at u.place self.now.state) result }
     {
-        Ok(self.ups_of(u)?.faulty())
+        Ok(self.ups_of(u)?.faulty)
     }
 
     /// A client connects. It makes room for what the session may hold, and for any answer of one
@@ -353,7 +354,7 @@ impl Server {
     pub fn room(&self, c: ClientId) -> Result<usize, Fault>
         ensures { Reads room_of (session c self.now.state) result }
     {
-        Ok(self.session(c)?.room())
+        Ok(self.session(c)?.standing().room)
     }
 
     /// A client sent a piece. The answer is how many of its bytes were taken in: as many as there
@@ -456,7 +457,7 @@ impl Server {
     pub fn finished(&self, c: ClientId) -> Result<bool, Fault>
         ensures { Reads is_finished (session c self.now.state) result }
     {
-        Ok(self.session(c)?.is_finished())
+        Ok(self.session(c)?.standing().is_finished)
     }
 
     /// The client's connection is gone: its session ends at once, and what it is owed is dropped.

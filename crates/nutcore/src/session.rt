@@ -2,10 +2,8 @@
 ghost use Rattle.std.specs.Prelude.{◌≡◌, ◌≤◌, ◌<◌, ◌-◌, ◌++◌, ℕ, List, length, take, IfOk, true, false, Some, None, [], ◌∷◌, if◌then◌else◌, drop};
 ghost use Rattle.std.specs.Option.{option_map};
 ghost use Rattle.nutcore.specs.Session.{new_session, begin_ending, SessionState};
-ghost use Rattle.nutwords.specs.SplitLine.{first_line};
 ghost use Rattle.nutcore.specs.Pump.{next_line, answered, holds_overlong, with_notice};
 ghost use Rattle.nutcore.specs.Step.{joined, accepted, taken_from};
-ghost use Rattle.nutlisting.specs.Items.{text_of, client_listing};
 ghost use Rattle.nutlisting.specs.declared.listing.clients.TheConstants.{SESSION_LIMIT};
 ghost use Rattle.std.specs.Borrow.{sem};
 ghost use Rattle.std.specs.Io.BufRead.{Rests};
@@ -13,7 +11,7 @@ ghost use Rattle.nutcore.specs.declared.TheConstants.{HELD_LIMIT};
 ghost use Rattle.nutlisting.specs.declared.outbox.TheConstants.{OWED_LIMIT};
 ghost use Rattle.nutlisting.specs.declared.ring.TheConstants.{RING_LIMIT};
 ghost use Rattle.nutwords.specs.declared.limits.TheConstants.{LINE_LIMIT};
-ghost use Rattle.nutcore.specs.Calls.{is_finished, room_of, IsOutboxOf};
+ghost use Rattle.nutcore.specs.Calls.{IsOutboxOf, standing_of};
 ghost use Rattle.nutlisting.specs.Counted.{IsCounted, KeepsCount};
 ghost use Rattle.nutcore.specs.Notes.{logout_of, who_of};
 ghost use Rattle.nutcore.specs.Promises.{IsLineOrNone, IsShort, text_with, change_in, refused_overlong, with_note};
@@ -26,17 +24,18 @@ use crate::event::Fault;
 use crate::lines::line_end;
 use crate::note::{Note, Notes, Who};
 use crate::scratch::Scratch;
+use crate::standing::Standing;
 use nutanswer::{Asker, Change, ErrWord, Reply};
-use nutlisting::{Clients, Listing, Outbox, Ring};
+use nutlisting::{Clients, Outbox, Ring};
 use nutusers::{Password, UpsId, UserName};
-use nutwords::{Address, UpsName};
+use nutwords::Address;
 use std::alloc::{AllocError, Global};
 use std::marker::Model;
 
 /// A client's session.
 #[derive(Drop)]
 pub(crate) struct Session {
-    id: u64,
+    pub(crate) id: u64,
     address: Address,
     held: Ring<HELD_LIMIT>,
     /// How many of the held bytes are lines that were executed. They go when the next piece comes.
@@ -79,13 +78,6 @@ impl Session {
             ending: false,
             tracking: false,
         })
-    }
-
-    /// Its id.
-    pub(crate) fn id(&self) -> u64
-        ensures { result ≡ self.now.id }
-    {
-        self.id
     }
 
     /// Whose it is.
@@ -143,21 +135,18 @@ impl Session {
         }
     }
 
-    /// Whether it is ending and owes nothing.
-    pub(crate) fn is_finished(&self) -> bool
-        ensures { result ≡ is_finished self.now }
+    /// How it stands.
+    pub(crate) fn standing(&self) -> Standing
+        ensures { result ≡ standing_of self.now }
     {
-        self.ending && self.outbox.is_empty()
-    }
-
-    /// How many bytes of input it takes in now.
-    pub(crate) fn room(&self) -> usize
-        ensures { result ≡ room_of self.now }
-    {
-        if self.ending {
-            HELD_LIMIT
-        } else {
-            HELD_LIMIT - self.waiting().len()
+        Standing {
+            offered: self.outbox.offered(),
+            room: if self.ending {
+                HELD_LIMIT
+            } else {
+                HELD_LIMIT - self.waiting().len()
+            },
+            is_finished: self.ending && self.outbox.is_empty(),
         }
     }
 
@@ -206,6 +195,7 @@ impl Session {
 
     /// Takes the next line, which ends there, joins its answer to what is owed, and does what that changes of the session.
     /// The clients in the scratch are those that the answer lists. Takes no memory.
+    #[tactic(auto, using(crate::proofs::Pumping::taking))]
     pub(crate) fn answer(&mut self, reply: Reply<'_>, end: usize, scratch: &mut Scratch)
         requires going { option_map length (next_line self.old) ≡ Some end }
         requires short { IsShort reply }
@@ -216,71 +206,22 @@ impl Session {
         ensures keeps { KeepsCount self.old.owed scratch.old.renders
             self.new.owed scratch.new.renders }
     {
-        self.take_line(end);
-        match reply {
-            Reply::One(text, change) => {
-                self.owe(text, scratch);
-                self.change(change);
-            }
-            Reply::Many(listing) => self.owe_listing(listing, scratch),
-            Reply::Clients(ups, _) => self.owe_clients(&ups, scratch),
-        }
-    }
-
-    /// Joins the listing of these clients to what is owed.
-    fn owe_clients(&mut self, ups: &UpsName, scratch: &mut Scratch)
-        requires { length self.old.owed ≤ OWED_LIMIT }
-        ensures owes { self.new ≡ record self.old
-            { owed = self.old.owed ++ text_of (client_listing ups.now scratch.old.clients) } }
-        ensures id { self.new.id ≡ self.old.id }
-        ensures keeps { KeepsCount self.old.owed scratch.old.renders
-            self.new.owed scratch.new.renders }
-    {
+        self.executed = self.executed + end + 1;
         let Scratch {
             line,
             renders,
             clients,
         } = scratch;
-        self.outbox.accept_clients(ups, clients, line, renders);
-    }
-
-    /// Joins an answer of one line to what is owed, if there is one.
-    fn owe(&mut self, text: &[u8], scratch: &mut Scratch)
-        requires ready { length self.old.owed ≤ OWED_LIMIT }
-        requires short { length text.now ≤ OWED_LIMIT }
-        requires line { IsLineOrNone text.now }
-        ensures owes { self.new ≡ record self.old { owed = self.old.owed ++ text.now } }
-        ensures id { self.new.id ≡ self.old.id }
-        ensures keeps { KeepsCount self.old.owed scratch.old.renders
-            self.new.owed scratch.new.renders }
-    {
-        if !text.is_empty() {
-            self.outbox.push(text, &mut scratch.renders);
+        match reply {
+            Reply::One(text, change) => {
+                self.change(change);
+                if !text.is_empty() {
+                    self.outbox.push(text, renders);
+                }
+            }
+            Reply::Many(listing) => self.outbox.accept(listing, line, renders),
+            Reply::Clients(ups, _) => self.outbox.accept_clients(&ups, clients, line, renders),
         }
-    }
-
-    /// Joins a listing to what is owed.
-    fn owe_listing(&mut self, listing: Listing, scratch: &mut Scratch)
-        requires { length self.old.owed ≤ OWED_LIMIT }
-        ensures owes { self.new ≡ record self.old { owed = self.old.owed ++ text_of listing } }
-        ensures id { self.new.id ≡ self.old.id }
-        ensures keeps { KeepsCount self.old.owed scratch.old.renders
-            self.new.owed scratch.new.renders }
-    {
-        let Scratch { line, renders, .. } = scratch;
-        self.outbox.accept(listing, line, renders);
-    }
-
-    /// Takes the first line, which ends there.
-    #[tactic(auto, using(crate::proofs::Pumping::ends_within))]
-    fn take_line(&mut self, end: usize)
-        requires { option_map length (first_line self.old.held) ≡ Some end }
-        ensures taken { (line : List ℕ) → first_line self.old.held ≡ Some line
-            → self.new ≡ answered line [] self.old }
-        ensures id { self.new.id ≡ self.old.id }
-        ensures owed { self.new.owed ≡ self.old.owed }
-    {
-        self.executed = self.executed + end + 1;
     }
 
     /// A session that holds 2,048 bytes without an LF is told so, and begins to end, which is noted.
@@ -290,7 +231,7 @@ impl Session {
     /// `LineTooLong`, where it is told so.
     pub(crate) fn refuse_overlong(
         &mut self,
-        scratch: &mut Scratch,
+        renders: &mut u64,
         notes: &mut Notes,
     ) -> Result<(), Fault>
         ensures overlong { result ≡ refused_overlong (holds_overlong self.old) }
@@ -298,8 +239,7 @@ impl Session {
         ensures noted { notes.new ≡ with_note
             (if holds_overlong self.old then logout_of self.old else None) notes.old }
         ensures id { self.new.id ≡ self.old.id }
-        ensures keeps { KeepsCount self.old.owed scratch.old.renders
-            self.new.owed scratch.new.renders }
+        ensures keeps { KeepsCount self.old.owed renders.old self.new.owed renders.new }
     {
         if self.ending
             || !self.outbox.is_ready()
@@ -309,7 +249,7 @@ impl Session {
             return Ok(());
         }
         notes.add(self.logout());
-        self.owe(ErrWord::TooLong.line(), scratch);
+        self.outbox.push(ErrWord::TooLong.line(), renders);
         self.begin_ending();
         Err(Fault::LineTooLong)
     }

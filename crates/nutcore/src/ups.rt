@@ -2,8 +2,6 @@
 ghost use Rattle.std.specs.Prelude.{◌≡◌, ◌≤◌, ℕ, IsTrue, List, Some, length, option_copied};
 ghost use Rattle.nutwords.specs.Reading.{is_value};
 ghost use Rattle.nutcore.specs.Ups.{new_ups, after_connecting, after_loss, after_tick, with_fsd, free_room, with_order, with_faulty_line, UpsState};
-ghost use Rattle.nutanswer.specs.View.{ups_seen};
-ghost use Rattle.nutcore.specs.Reply.{seen_ups};
 ghost use Rattle.nutcore.specs.Notes.{data_state_of, look_of, status_of};
 ghost use Rattle.nutcore.specs.Promises.{IsTaken, IsCut, DoesLine, IsFront, front_or};
 
@@ -11,7 +9,6 @@ use crate::DRIVER_OWED_LIMIT;
 use crate::event::Fault;
 use crate::note::{DataState, Look};
 use arrayvec::ArrayVec;
-use nutanswer::UpsView;
 use nutdriver::{DriverFault, LineOutcome, Report};
 use nutmap::Meter;
 use nutwords::{Found, LineCut, Name, Value};
@@ -25,12 +22,14 @@ const PING_LINE: &[u8] = b"PING\n";
 #[derive(Drop)]
 pub(crate) struct Ups {
     alloc: Global,
-    report: Report,
+    pub(crate) report: Report,
     pinged: u64,
-    fsd: bool,
-    owed: ArrayVec<u8, DRIVER_OWED_LIMIT>,
+    pub(crate) fsd: bool,
+    /// What its driver is offered.
+    pub(crate) owed: ArrayVec<u8, DRIVER_OWED_LIMIT>,
     cut: LineCut,
-    faulty: u64,
+    /// How many lines of its drivers were refused.
+    pub(crate) faulty: u64,
     fault: Option<DriverFault>,
 }
 
@@ -55,20 +54,6 @@ impl Ups {
             faulty: 0,
             fault: None,
         }
-    }
-
-    /// Whether its driver is connected.
-    pub(crate) fn is_connected(&self) -> bool
-        ensures { result ≡ self.now.report.connected }
-    {
-        self.report.connected
-    }
-
-    /// How many lines of its drivers were refused.
-    pub(crate) fn faulty(&self) -> u64
-        ensures { result ≡ self.now.faulty }
-    {
-        self.faulty
     }
 
     /// How its data stand at the moment. Clients see them only while they are good: the driver is connected, has reported
@@ -108,17 +93,6 @@ impl Ups {
         }
     }
 
-    /// What answers may look at.
-    pub(crate) fn view(&self) -> UpsView<'_>
-        ensures { ups_seen result ≡ seen_ups self.now }
-    {
-        UpsView {
-            report: &self.report,
-            fsd: self.fsd,
-            free: DRIVER_OWED_LIMIT - self.owed.len(),
-        }
-    }
-
     /// A forced shutdown is set.
     pub(crate) fn set_fsd(&mut self)
         ensures { self.new ≡ with_fsd self.old }
@@ -134,13 +108,6 @@ impl Ups {
         let owed = self.owed.len();
         prove!(owed + line.len() <= DRIVER_OWED_LIMIT);
         self.owed.try_extend_from_slice(line).unwrap();
-    }
-
-    /// What its driver is offered.
-    pub(crate) fn offer(&self) -> &[u8]
-        ensures { result.now ≡ self.now.owed }
-    {
-        self.owed.as_slice()
     }
 
     /// The driver took n bytes of what it is owed.

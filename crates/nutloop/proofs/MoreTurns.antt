@@ -24,9 +24,6 @@ is_one_run calls failures (Ok u) old sockets new after t = any_turns_are_one_run
 is_one_run calls failures (Err fault) old sockets new after t = any_turns_are_one_run calls failures old new sockets after (replicate t.0 (Ok tt) ++ Err fault ∷ []) t.1
 
 module _ {S W : Type 0} (calls : S → Told) (failures : S → ℕ) (shows : W → RunningServer → S → W → Type 0) where
-  pub nothing_shown : (old : ServerState) (sockets : S) (watcher : W) → ShownTurns calls failures shows 0 old sockets watcher old sockets watcher
-  nothing_shown old sockets watcher = (refl, refl, refl)
-
   next_shown : (n : ℕ) (old : ServerState) (sockets : S) (watcher : W) (mid : ServerState) (middle : S) (next : W) (new : RunningServer) (after : S) (last : W)
       → ShownTurns calls failures shows n old sockets watcher mid middle next → TurnGives calls failures mid middle (Ok tt) new.state after → shows next new after last
       → ShownTurns calls failures shows (suc n) old sockets watcher new.state after last

@@ -113,9 +113,12 @@ row_behind calls failures ready old sockets middle new after told count r = reco
   count = r.count ∙ ap (failures_by r.answer) count;
 }
 
--- The answer of ready for a peer that is this one.
-pub of_peer : (before after : Told) (turn : Peer → Ready) (p q : Peer) → p ≡ q → Grows before after (Readied (turn p) ∷ []) → Grows before after (Readied (turn q) ∷ [])
-of_peer before after turn p q is told = subst (λ (r : Peer). Grows before after (Readied (turn r) ∷ [])) is told
+-- The row of a peer that is this one, after the answer of ready.
+pub row_of_peer : {S : Type 0} (calls : S → Told) (failures : S → ℕ) (turn : Peer → Ready) (p q : Peer) (old : ServerState) (sockets middle : S) (new : ServerState) (after : S)
+    → p ≡ q → Grows (calls sockets) (calls middle) (Readied (turn p) ∷ []) → failures middle ≡ failures sockets → IsRow calls failures [] (turn q) old middle new after
+    → (ready : Ready) × IsRow calls failures (Readied ready ∷ []) ready old sockets new after
+row_of_peer calls failures turn p q old sockets middle new after is told count r =
+    (turn q, row_behind calls failures (turn q) old sockets middle new after (subst (λ (this : Peer). Grows (calls sockets) (calls middle) (Readied (turn this) ∷ [])) is told) count r)
 
 -- A row of one event, which asks nothing of the sockets, after the answer of ready.
 pub row_of_event : {S : Type 0} (calls : S → Told) (failures : S → ℕ) (ready : Ready) (e : Event) (o : Outcome) (old : ServerState) (sockets middle : S) (new : ServerState) (after : S)

@@ -21,9 +21,11 @@ use Rattle.nutloop.specs.declared.over_mio.pass.TheConstants.{CLIENT_READS, CLIE
 abbrev pub client_may : Way → Client → Bool
 client_may Read x =
     x.socket.readable
-    && (if x.standing.is_owed then x.standing.has_room && not x.socket.ended
+    && (if nat_lt 0 x.standing.offered
+    then nat_lt 0 x.standing.room && not x.socket.ended
     else not x.standing.is_finished)
-client_may Write x = if x.standing.is_owed then x.socket.writable else x.standing.is_finished
+client_may Write x =
+    if nat_lt 0 x.standing.offered then x.socket.writable else x.standing.is_finished
 
 abbrev pub client_at : Way → List (Option Client) → ℕ → Bool
 client_at way clients place =

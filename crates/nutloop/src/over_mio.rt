@@ -276,7 +276,7 @@ impl<'a, R: Net + Clock, F: Read + Drop> Sockets for MioSockets<'a, R, F> {
         }
         // What a client is owed changes by its own turns alone.
         if let Some(Some(client)) = self.clients.get_mut(self.here) {
-            client.standing = server.standing(client.id);
+            client.standing = server.standing(client.id).unwrap_or_default();
         }
         let answer = self.next_turn(server).map_err(|_| Broken);
         self.count(answer)
@@ -305,7 +305,7 @@ impl<'a, R: Net + Clock, F: Read + Drop> Sockets for MioSockets<'a, R, F> {
     fn read(&mut self, p: Peer, into: &mut [u8]) -> Result<Got, Broken> {
         let answer = match p {
             Peer::Client(c) => match slot_of(&mut self.clients, self.here, c) {
-                Some(Some(client)) => client.socket.read(into, client.standing.is_owed),
+                Some(Some(client)) => client.socket.read(into, client.standing.offered > 0),
                 _ => Ok(Got::End),
             },
             Peer::Driver(u) => match socket_of(&mut self.drivers, u.place as usize) {

@@ -47,7 +47,7 @@ impl Server {
         ensures refused { IfErr result (λ fault. IsNotConnected u fault self.now.state) }
         ensures lawful { IsLawful self.now.state }
     {
-        if self.ups_of(u)?.is_connected() {
+        if self.ups_of(u)?.report.connected {
             Ok(())
         } else {
             Err(Fault::NotConnected)

@@ -1,5 +1,5 @@
 //! The pump: which of a session's lines are executed, and what each does.
-ghost use Rattle.std.specs.Prelude.{◌≡◌, ◌≤◌, ◌<◌, length, slice_get, take, OnOk, OnErr, IsTrue, Some, None, []};
+ghost use Rattle.std.specs.Prelude.{◌≡◌, ◌≤◌, ◌<◌, length, map, slice_get, take, OnOk, OnErr, IsTrue, Some, None, []};
 ghost use Rattle.std.specs.Option.{option_map};
 ghost use Rattle.nutcore.specs.Server.{session, changed_at};
 ghost use Rattle.nutcore.specs.Pump.{next_line_for, after_line, held_of, wants_memory};
@@ -10,7 +10,8 @@ ghost use Rattle.nutcore.specs.Calls.{done};
 ghost use Rattle.nutcore.specs.Step.{offered, refused_after};
 ghost use Rattle.nutlisting.specs.Counted.{IsCounted};
 ghost use Rattle.nutcore.specs.Promises.{IsAt, TakesLine, OrderFits, PumpGives, ListsClients, change_in, KeepsCost, cost_beyond, with_next};
-ghost use Rattle.nutcore.specs.Reply.{changed_upses, changed_tracking};
+ghost use Rattle.nutanswer.specs.View.{addresses_at};
+ghost use Rattle.nutcore.specs.Reply.{changed_upses, changed_tracking, seen_client};
 ghost use Rattle.nutlisting.specs.declared.listing.clients.TheConstants.{SESSION_LIMIT};
 ghost use Rattle.nutcore.specs.declared.TheConstants.{HELD_LIMIT};
 ghost use Rattle.nutcore.specs.declared.note.TheConstants.{NOTE_LIMIT};
@@ -54,8 +55,9 @@ impl Server {
         let read = Command::read(session.next_line(end));
         let reply = view.reply_to(session.asker(), &read, &mut self.reply_line)?;
         self.notes.add_line(session, &read, &reply);
-        change_upses(&mut self.upses, &mut self.tracking, &reply);
-        list_clients(&self.sessions, &reply, &mut self.scratch.clients);
+        let (upses, tracking) = (&mut self.upses, &mut self.tracking);
+        let clients = &mut self.scratch.clients;
+        carry_out(&reply, upses, tracking, &self.sessions, clients);
         let session = &mut self.sessions[place];
         session.answer(reply, end, &mut self.scratch);
         Ok(())
@@ -81,7 +83,7 @@ impl Server {
             done += 1;
         }
         let session = &mut self.sessions[place];
-        session.refuse_overlong(&mut self.scratch, &mut self.notes)
+        session.refuse_overlong(&mut self.scratch.renders, &mut self.notes)
     }
 
     /// Executes the session's lines, and counts as placed what is offered then after so many bytes, which were offered
@@ -104,39 +106,45 @@ impl Server {
     }
 }
 
-/// Does what an answer changes of the UPSs, and of the ids and the tracked orders.
-fn change_upses(upses: &mut Vec<Ups>, tracking: &mut Tracking, reply: &Reply<'_>)
+/// Does what an answer changes of the UPSs, and of the ids and the tracked orders. Of a listing of clients it puts them
+/// together.
+fn carry_out(
+    reply: &Reply<'_>,
+    upses: &mut Vec<Ups>,
+    tracking: &mut Tracking,
+    sessions: &Vec<Session>,
+    clients: &mut Clients,
+)
     requires fits { OrderFits (change_in reply.now) upses.old.items }
+    requires few { length sessions.now.items ≤ SESSION_LIMIT }
     ensures upses { upses.new.items ≡ changed_upses (change_in reply.now) upses.old.items }
     ensures tracking { tracking.new ≡ changed_tracking (change_in reply.now) tracking.old }
+    ensures lists { ListsClients sessions.now.items reply.now clients.new }
 {
-    let Reply::One(_, change) = reply else {
-        return;
-    };
-    match change {
-        Change::Fsd(u) => set_fsd(upses, *u),
-        Change::Order(u, line) => order(upses, *u, line.as_bytes()),
-        Change::Tracked(u, _, line) => {
-            order(upses, *u, line.as_bytes());
-            let _id = tracking.use_for(u.place as usize);
-        }
-        _ => {}
+    match reply {
+        Reply::One(_, change) => match change {
+            Change::Fsd(u) => set_fsd(upses, *u),
+            Change::Order(u, line) => order(upses, *u, line.as_bytes()),
+            Change::Tracked(u, _, line) => {
+                order(upses, *u, line.as_bytes());
+                let _id = tracking.use_for(u.place as usize);
+            }
+            _ => {}
+        },
+        Reply::Many(_) => {}
+        Reply::Clients(_, u) => list_clients(sessions, *u, clients),
     }
 }
 
-/// Where the reply lists the clients of a UPS, puts together the addresses of the sessions that are logged in to it, in
-/// the order of opening.
+/// Puts together the addresses of the sessions that are logged in to the UPS, in the order of opening.
 #[tactic(auto, using(crate::proofs::LoginCount::listing))]
-fn list_clients(sessions: &Vec<Session>, reply: &Reply<'_>, clients: &mut Clients)
+fn list_clients(sessions: &Vec<Session>, u: UpsId, clients: &mut Clients)
     requires { length sessions.now.items ≤ SESSION_LIMIT }
-    ensures { ListsClients sessions.now.items reply.now clients.new }
+    ensures { clients.new ≡ addresses_at u (map seen_client sessions.now.items) }
 {
-    let Reply::Clients(_, u) = reply else {
-        return;
-    };
     clients.clear();
     for session in sessions.iter() {
-        session.list(*u, clients);
+        session.list(u, clients);
     }
 }
 

@@ -21,7 +21,7 @@ impl Server {
         ensures lawful { IsLawful self.now.state }
     {
         self.sessions
-            .binary_search_by_key(&c, |session| session.id())
+            .binary_search_by_key(&c, |session| session.id)
             .or(Err(Fault::NoSuchClient))
     }
 

@@ -1,11 +1,10 @@
 //! What the server reports beside the answers to clients.
 ghost use Rattle.std.specs.Prelude.{◌≡◌, ◌≤◌, length, option_copied, take, []};
 ghost use Rattle.std.specs.Option.{option_and_then};
-ghost use Rattle.nutcore.specs.Calls.{ReadsUps};
+ghost use Rattle.nutcore.specs.Calls.{Reads, ReadsUps, standing_of};
 ghost use Rattle.nutcore.specs.Notes.{look_at, status_of, tick_notes};
 ghost use Rattle.nutcore.specs.Promises.{with_changes};
-ghost use Rattle.nutcore.specs.Server.{ups_at};
-ghost use Rattle.nutcore.specs.Status.{standing_of};
+ghost use Rattle.nutcore.specs.Server.{session, ups_at};
 ghost use Rattle.nutcore.specs.declared.note.TheConstants.{NOTE_LIMIT};
 ghost use Rattle.nutusers.specs.declared.limits.TheConstants.{UPS_LIMIT};
 
@@ -32,7 +31,7 @@ impl Server {
     pub fn driver_connected(&self, u: UpsId) -> Result<bool, Fault>
         ensures { ReadsUps (λ x. x.report.connected) (ups_at u.place self.now.state) result }
     {
-        Ok(self.ups_of(u)?.is_connected())
+        Ok(self.ups_of(u)?.report.connected)
     }
 
     /// The value of `ups.status`, if there is such a UPS and its driver has reported one.
@@ -48,7 +47,7 @@ impl Server {
         ensures { result ≡ look_at u self.now.state }
     {
         let ups = self.ups_of(u).ok()?;
-        Some(ups.look(self.max_age.seconds(), self.moment))
+        Some(ups.look(self.max_age, self.moment))
     }
 
     /// Notes how the UPS differs from this earlier look.
@@ -66,17 +65,14 @@ impl Server {
     }
 
     /// What `offered`, `room` and `finished` answer about the client, by one look-up.
-    pub fn standing(&self, c: ClientId) -> Standing
-        ensures { result ≡ standing_of c self.now.state }
+    ///
+    /// # Errors
+    ///
+    /// `NoSuchClient`.
+    pub fn standing(&self, c: ClientId) -> Result<Standing, Fault>
+        ensures { Reads standing_of (session c self.now.state) result }
     {
-        match self.session(c) {
-            Ok(session) => Standing {
-                is_owed: session.offered() != 0,
-                has_room: session.room() != 0,
-                is_finished: session.is_finished(),
-            },
-            Err(_) => Standing::default(),
-        }
+        Ok(self.session(c)?.standing())
     }
 }
 

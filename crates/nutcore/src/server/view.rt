@@ -5,8 +5,8 @@ ghost use Rattle.nutcore.specs.Reply.{seen_client, seen_ups};
 ghost use Rattle.nutcore.specs.Promises.{AnswersEach, IsText};
 ghost use Rattle.nutanswer.specs.View.{login_count, asker_seen, Seen};
 
+use crate::DRIVER_OWED_LIMIT;
 use crate::lines::ReadLine;
-use crate::max_age::MaxAge;
 use crate::session::Session;
 use crate::ups::Ups;
 use nutanswer::{Asker, Change, Reply, UpsView, View, answer};
@@ -21,7 +21,7 @@ use std::marker::Model;
 #[derive(Drop)]
 pub(super) struct ServerView<'a> {
     pub(super) moment: u64,
-    pub(super) max_age: MaxAge,
+    pub(super) max_age: u32,
     pub(super) list: &'a UpsList,
     pub(super) users: &'a Users,
     pub(super) descriptions: &'a Descriptions,
@@ -72,7 +72,7 @@ impl<'a> View for ServerView<'a> {
     }
 
     fn max_age(&self) -> u32 {
-        self.max_age.seconds()
+        self.max_age
     }
 
     fn list(&self) -> &UpsList {
@@ -96,7 +96,12 @@ impl<'a> View for ServerView<'a> {
     }
 
     fn ups(&self, u: UpsId) -> Option<UpsView<'_>> {
-        Some(self.upses.get(u.place as usize)?.view())
+        let ups = self.upses.get(u.place as usize)?;
+        Some(UpsView {
+            report: &ups.report,
+            fsd: ups.fsd,
+            free: DRIVER_OWED_LIMIT - ups.owed.len(),
+        })
     }
 }
 

@@ -9,7 +9,7 @@ use super::tokens::Source;
 use arrayvec::ArrayVec;
 use mio::Registry;
 use mio::net::TcpStream;
-use nutcore::{ClientId, SESSION_LIMIT, Standing};
+use nutcore::{ClientId, HELD_LIMIT, SESSION_LIMIT, Standing};
 
 /// The clients by their places. A client keeps its place up to its end.
 pub(super) type Clients = ArrayVec<Option<Client>, SESSION_LIMIT>;
@@ -33,8 +33,8 @@ impl Client {
             standing,
             ..
         } = self;
-        match (way, standing.is_owed) {
-            (Way::Read, true) => socket.readable && standing.has_room && !socket.ended,
+        match (way, standing.offered > 0) {
+            (Way::Read, true) => socket.readable && standing.room > 0 && !socket.ended,
             (Way::Read, false) => socket.readable && !standing.is_finished,
             (Way::Write, true) => socket.writable,
             (Way::Write, false) => standing.is_finished,
@@ -103,8 +103,8 @@ fn registered(registry: &Registry, id: ClientId, mut stream: TcpStream, place: u
             ended: failed,
         },
         standing: Standing {
-            is_owed: false,
-            has_room: true,
+            offered: 0,
+            room: HELD_LIMIT,
             is_finished: false,
         },
     }

@@ -5,7 +5,7 @@ use Rattle.nutcore.specs.declared.event.Outcome.TheVariants.{Done}
 use Rattle.nutcore.specs.declared.event.Peer.TheVariants.{Client, Driver}
 use Rattle.nutloop.specs.declared.sockets.Ready.TheVariants.{Nothing, Tick, Id, DriverUp, Read, Write}
 use Rattle.nutloop.specs.Turn.{nobody, unasked}
-use Rattle.nutloop.proofs.Rows.{row, row_behind, row_of_event, of_peer, does_nothing, grows_nothing}
+use Rattle.nutloop.proofs.Rows.{row, row_behind, row_of_event, row_of_peer, does_nothing, grows_nothing}
 use Rattle.nutloop.proofs.turns.turn.Goals as goal
 
 pub returns-in-Nothing : goal.returns-in-Nothing
@@ -38,29 +38,21 @@ returns-in-DriverUp g c = (
 )
 
 pub returns-in-Read-Client : goal.returns-in-Read-Client
-returns-in-Read-Client g c = (
-  Read (Client c.in-Read-Client.c),
-  row_behind g.S.Sockets.calls g.S.Sockets.failures (Read (Client c.in-Read-Client.c)) c.args.server.now.state c.args.sockets.now c.ready.new.self c.read_client.new.server.state c.read_client.new.sockets
-      (of_peer (g.S.Sockets.calls c.args.sockets.now) (g.S.Sockets.calls c.ready.new.self) (λ p. Read p) _ _ (rw c.in-Read-Client.is at c.in-Read-Client.field-0-is) (rw c.in-Read-Client.is at c.in-Ok.ensures.told)) c.in-Ok.ensures.count c.read_client.ensures,
-)
+returns-in-Read-Client g c =
+    row_of_peer g.S.Sockets.calls g.S.Sockets.failures (λ p. Read p) _ (Client c.in-Read-Client.c) c.args.server.now.state c.args.sockets.now c.ready.new.self c.read_client.new.server.state c.read_client.new.sockets
+    (rw c.in-Read-Client.is at c.in-Read-Client.field-0-is) (rw c.in-Read-Client.is at c.in-Ok.ensures.told) c.in-Ok.ensures.count c.read_client.ensures
 
 pub returns-in-Read-Driver : goal.returns-in-Read-Driver
-returns-in-Read-Driver g c = (
-  Read (Driver c.in-Read-Driver.u),
-  row_behind g.S.Sockets.calls g.S.Sockets.failures (Read (Driver c.in-Read-Driver.u)) c.args.server.now.state c.args.sockets.now c.ready.new.self c.read_driver.new.server.state c.read_driver.new.sockets
-      (of_peer (g.S.Sockets.calls c.args.sockets.now) (g.S.Sockets.calls c.ready.new.self) (λ p. Read p) _ _ (rw c.in-Read-Driver.is at c.in-Read-Driver.field-0-is) (rw c.in-Read-Driver.is at c.in-Ok.ensures.told)) c.in-Ok.ensures.count c.read_driver.ensures,
-)
+returns-in-Read-Driver g c =
+    row_of_peer g.S.Sockets.calls g.S.Sockets.failures (λ p. Read p) _ (Driver c.in-Read-Driver.u) c.args.server.now.state c.args.sockets.now c.ready.new.self c.read_driver.new.server.state c.read_driver.new.sockets
+    (rw c.in-Read-Driver.is at c.in-Read-Driver.field-0-is) (rw c.in-Read-Driver.is at c.in-Ok.ensures.told) c.in-Ok.ensures.count c.read_driver.ensures
 
 pub returns-in-Write-Client : goal.returns-in-Write-Client
-returns-in-Write-Client g c = (
-  Write (Client c.in-Write-Client.c),
-  row_behind g.S.Sockets.calls g.S.Sockets.failures (Write (Client c.in-Write-Client.c)) c.args.server.now.state c.args.sockets.now c.ready.new.self c.write_client.new.server.state c.write_client.new.sockets
-      (of_peer (g.S.Sockets.calls c.args.sockets.now) (g.S.Sockets.calls c.ready.new.self) (λ p. Write p) _ _ (rw c.in-Write-Client.is at c.in-Write-Client.field-0-is) (rw c.in-Write-Client.is at c.in-Ok.ensures.told)) c.in-Ok.ensures.count c.write_client.ensures,
-)
+returns-in-Write-Client g c =
+    row_of_peer g.S.Sockets.calls g.S.Sockets.failures (λ p. Write p) _ (Client c.in-Write-Client.c) c.args.server.now.state c.args.sockets.now c.ready.new.self c.write_client.new.server.state c.write_client.new.sockets
+    (rw c.in-Write-Client.is at c.in-Write-Client.field-0-is) (rw c.in-Write-Client.is at c.in-Ok.ensures.told) c.in-Ok.ensures.count c.write_client.ensures
 
 pub returns-in-Write-Driver : goal.returns-in-Write-Driver
-returns-in-Write-Driver g c = (
-  Write (Driver c.in-Write-Driver.u),
-  row_behind g.S.Sockets.calls g.S.Sockets.failures (Write (Driver c.in-Write-Driver.u)) c.args.server.now.state c.args.sockets.now c.ready.new.self c.write_driver.new.server.state c.write_driver.new.sockets
-      (of_peer (g.S.Sockets.calls c.args.sockets.now) (g.S.Sockets.calls c.ready.new.self) (λ p. Write p) _ _ (rw c.in-Write-Driver.is at c.in-Write-Driver.field-0-is) (rw c.in-Write-Driver.is at c.in-Ok.ensures.told)) c.in-Ok.ensures.count c.write_driver.ensures,
-)
+returns-in-Write-Driver g c =
+    row_of_peer g.S.Sockets.calls g.S.Sockets.failures (λ p. Write p) _ (Driver c.in-Write-Driver.u) c.args.server.now.state c.args.sockets.now c.ready.new.self c.write_driver.new.server.state c.write_driver.new.sockets
+    (rw c.in-Write-Driver.is at c.in-Write-Driver.field-0-is) (rw c.in-Write-Driver.is at c.in-Ok.ensures.told) c.in-Ok.ensures.count c.write_driver.ensures

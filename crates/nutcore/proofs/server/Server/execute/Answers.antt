@@ -31,13 +31,13 @@ returns-in_err-reply-clause-memory c =
     let at = heard (the_view c.self.inside).state s c.args.c c.args.place c.index-session.result.now line _ c.read-read.result _ (state_is c.self.view_is) c.requires.at c.index-session.ensures c.next_line.ensures.line c.asker.ensures c.read-read.ensures c.reply_to.ensures in
     on_err c.from_residual.result _ (wants_is s c.args.c line at.next (subst (RepliesOrLacks s c.args.c line) c.in_err-reply.was at.told))
 
-pub change_upses-requires : goal.change_upses-requires
-change_upses-requires c =
+pub carry_out-requires-clause-fits : goal.carry_out-requires-clause-fits
+carry_out-requires-clause-fits c =
     let s : ServerState = c.args.self.now.state in
     let line : List ℕ = c.next_line.result.now in
     let at = heard (the_view c.self.inside).state s c.args.c c.args.place c.index-session.result.now line _ c.read-read.result (Ok c.in_ok-reply.reply) (state_is c.self.view_is) c.requires.at c.index-session.ensures c.next_line.ensures.line c.asker.ensures c.read-read.ensures c.in_ok-reply.ensures in
     let change : Change = change_in c.in_ok-reply.reply in
-    record { fits = subst (λ (z : ServerState). OrderFits change z.upses) (sym (state_is c.self.view_is)) (order_fits s c.args.c (read_command line) change (change_told s c.args.c line c.in_ok-reply.reply at.told)) }
+    subst (λ (z : ServerState). OrderFits change z.upses) (sym (state_is c.self.view_is)) (order_fits s c.args.c (read_command line) change (change_told s c.args.c line c.in_ok-reply.reply at.told))
 
 pub answer-requires-clause-going : goal.answer-requires-clause-going
 answer-requires-clause-going c =
@@ -61,14 +61,14 @@ invariant_of-self-2 c =
     let change : Change = change_in c.in_ok-reply.reply in
     let at = heard v s c.args.c c.args.place c.index-session.result.now line _ c.read-read.result (Ok c.in_ok-reply.reply) (state_is c.self.view_is) c.requires.at c.index-session.ensures c.next_line.ensures.line c.asker.ensures c.read-read.ensures c.in_ok-reply.ensures in
     let fits : OrderFits change v.upses = subst (λ (z : ServerState). OrderFits change z.upses) (sym (state_is c.self.view_is)) (order_fits s c.args.c (read_command line) change (change_told s c.args.c line c.in_ok-reply.reply at.told)) in
-    let t : ServerState = record v { upses = c.change_upses.new.upses.items; tracking = c.change_upses.new.tracking } in
-    let made = changes_made v s change c.change_upses.new.upses.items c.change_upses.new.tracking (state_is c.self.view_is) c.change_upses.ensures.upses c.change_upses.ensures.tracking in
+    let t : ServerState = record v { upses = c.carry_out.new.upses.items; tracking = c.carry_out.new.tracking } in
+    let made = changes_made v s change c.carry_out.new.upses.items c.carry_out.new.tracking (state_is c.self.view_is) c.carry_out.ensures.upses c.carry_out.ensures.tracking in
     let here : StandsAt t c.args.c c.args.place x = stands c.args.c c.args.place t _ x made c.requires.at c.index_mut-session.ensures.value in
     let going : option_map length (next_line x) ≡ Some c.args.end = next_end_is s c.args.c x (found_in c.args.c c.args.place v s x (state_is c.self.view_is) c.requires.at c.index_mut-session.ensures.value) ∙ c.requires.next in
     record {
       sound = session_kept t c.args.c c.args.place x c.answer.new.self here.at here.found c.answer.ensures.id
-          (answered_kept change (text_with c.list_clients.new.clients c.in_ok-reply.reply) x c.answer.new.self c.args.end going c.answer.ensures.answered)
-          (changes_kept v change c.change_upses.new.upses.items c.change_upses.new.tracking c.change_upses.ensures.upses c.change_upses.ensures.tracking fits c.self.invariant.sound);
+          (answered_kept change (text_with c.carry_out.new.clients c.in_ok-reply.reply) x c.answer.new.self c.args.end going c.answer.ensures.answered)
+          (changes_kept v change c.carry_out.new.upses.items c.carry_out.new.tracking c.carry_out.ensures.upses c.carry_out.ensures.tracking fits c.self.invariant.sound);
       room = c.self.invariant.room;
     }
 
@@ -81,15 +81,15 @@ returns c =
     let reply : Reply = c.in_ok-reply.reply in
     let change : Change = change_in reply in
     let at = heard v s c.args.c c.args.place c.index-session.result.now line _ c.read-read.result (Ok reply) (state_is c.self.view_is) c.requires.at c.index-session.ensures c.next_line.ensures.line c.asker.ensures c.read-read.ensures c.in_ok-reply.ensures in
-    let t : ServerState = record v { upses = c.change_upses.new.upses.items; tracking = c.change_upses.new.tracking } in
-    let made = changes_made v s change c.change_upses.new.upses.items c.change_upses.new.tracking (state_is c.self.view_is) c.change_upses.ensures.upses c.change_upses.ensures.tracking in
+    let t : ServerState = record v { upses = c.carry_out.new.upses.items; tracking = c.carry_out.new.tracking } in
+    let made = changes_made v s change c.carry_out.new.upses.items c.carry_out.new.tracking (state_is c.self.view_is) c.carry_out.ensures.upses c.carry_out.ensures.tracking in
     let here : StandsAt t c.args.c c.args.place x = stands c.args.c c.args.place t _ x made c.requires.at c.index_mut-session.ensures.value in
     let next : next_line x ≡ Some line = next_of_found s c.args.c x line (found_in c.args.c c.args.place v s x (state_is c.self.view_is) c.requires.at c.index_mut-session.ensures.value) at.next in
     let after : ServerState = record t { sessions = set t.sessions c.args.place c.answer.new.self } in
     let renders = c.answer.new.scratch.renders in
     record {
-      ok = line_is s t c.args.c c.args.place line reply c.list_clients.new.clients x c.answer.new.self
-          at.next at.told c.list_clients.ensures made here (c.answer.ensures.answered line next);
+      ok = line_is s t c.args.c c.args.place line reply c.carry_out.new.clients x c.answer.new.self
+          at.next at.told c.carry_out.ensures.lists made here (c.answer.ensures.answered line next);
       err = tt;
       memory = tt;
       noted = noted_reply s c.args.c line reply c.read-read.result c.index-session.result.now c.args.self.now.notes c.add_line.new.self at.next

@@ -17,4 +17,4 @@ invariant_of-result c =
     let sessions : c.in_ok-sessions.sessions.items ≡ [] = c.in_ok-sessions.ensures.items in
     let tracking : c.in_ok-tracking.tracking ≡ nothing_tracked = c.in_ok-tracking.ensures in
     let new = new_sound c.lawful_lines_keep_trees_sound.ensures.empty c.each_line_keeps_the_tree_sound.ensures c.read_lines_are_lawful.ensures c.args.list c.args.users c.args.descriptions c.args.max_age list c.texts_are_lawful.ensures age in
-    record { sound = rw (upses, sessions, tracking) new; room = first_of (search rules, grind (arith, common_steps)) }
+    record { sound = rw (upses, sessions, tracking, c.seconds.ensures) new; room = first_of (search rules, grind (arith, common_steps)) }

@@ -87,7 +87,7 @@ returns c =
     let found : session c.args.c t ≡ Some x = ap (session c.args.c) (sym (state_is c.self-2.view_is)) ∙ here.found in
     let noticed = notice_is v c.args.c c.args.place x y here.at here.found c.refuse_overlong.ensures.noticed ∙ ap (λ (z : ServerState). after_notice z c.args.c) (state_is c.self-2.view_is) in
     let u : ServerState = record v { sessions = set v.sessions c.args.place y } in
-    let keeps = subst (λ (z : RunningServer). KeepsCount (owed c.args.c z.state) z.cost.rendered (owed c.args.c u) c.refuse_overlong.new.scratch.renders) c.self-2.view_is
+    let keeps = subst (λ (z : RunningServer). KeepsCount (owed c.args.c z.state) z.cost.rendered (owed c.args.c u) c.refuse_overlong.new.renders) c.self-2.view_is
     (cost_kept v c.args.c c.args.place x y _ _ here.at here.found c.refuse_overlong.ensures.id c.refuse_overlong.ensures.keeps) in
     record {
       gives = pump_gives c.args.self.now.state t _ c.args.c c.loop-end.done c.refuse_overlong.result c.loop-end.invariant.done le none noticed

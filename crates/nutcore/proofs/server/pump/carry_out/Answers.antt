@@ -1,6 +1,6 @@
 use Rattle.std.proofs.Common.{ℕ, List, Some, None, sym, subst}
 use Rattle.nutcore.specs.Promises.{TakesLine}
-use Rattle.nutcore.proofs.server.pump.change_upses.Goals as goal
+use Rattle.nutcore.proofs.server.pump.carry_out.Goals as goal
 
 pub order-requires : goal.order-requires
 order-requires c =
