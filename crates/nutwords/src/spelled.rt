@@ -2,14 +2,13 @@
 ghost use Rattle.std.specs.Prelude.{◌≡◌, ◌≤◌, ◌<◌, ◌==◌, length, IfSome, List, ℕ, MatchOption, true, false, [], is_ok, is_some, not};
 ghost use Rattle.nutwords.specs.Keyword.{is_word};
 ghost use Rattle.nutwords.specs.Reading.{read_text};
-ghost use Rattle.nutwords.specs.Scan.{read_from, read_line};
+ghost use Rattle.nutwords.specs.Scan.{read_line};
 ghost use Rattle.nutwords.specs.Spelled.{spelled, holds_escapes, is_borrowed};
-ghost use Rattle.nutwords.specs.Split.{unescaped, word_end, TakesWord, StartsInWord};
+ghost use Rattle.nutwords.specs.Split.{unescaped, TakesWord, StartsInWord};
 ghost use Rattle.nutwords.specs.Word.{bytes_of};
-ghost use Rattle.nutwords.specs.declared.scan.Place.TheVariants.{Bare, Quoted};
 
 use crate::scan::word_end;
-use crate::{BadName, LINE_LIMIT, Text, TextKind, Word, is_word};
+use crate::{BadName, LINE_LIMIT, Text, TextKind, Word};
 use arrayvec::ArrayVec;
 use std::marker::Model;
 
@@ -64,9 +63,10 @@ impl<'a> SpelledWord<'a> {
     pub fn is_word(&self, keyword: &[u8]) -> bool
         ensures { result ≡ is_word (spelled self.now) keyword.now }
     {
-        match self.as_plain() {
-            Some(bytes) => is_word(bytes, keyword),
-            None => spells_word(self.text, keyword),
+        if self.is_escaped {
+            spells_word(self.text, keyword)
+        } else {
+            self.text.eq_ignore_ascii_case(keyword)
         }
     }
 
@@ -74,12 +74,11 @@ impl<'a> SpelledWord<'a> {
     pub fn read<K: TextKind, const MOST: usize>(&self) -> Result<Text<K, MOST>, BadName>
         ensures { result ≡ read_text K.allows K.MAY_BE_EMPTY MOST (spelled self.now) }
     {
-        match self.as_plain() {
-            Some(bytes) => Text::read(bytes),
-            None => {
-                let bytes = unescaped::<MOST>(self.text).ok_or(BadName::TooLong)?;
-                Text::read(bytes.as_slice())
-            }
+        if self.is_escaped {
+            let bytes = unescaped::<MOST>(self.text).ok_or(BadName::TooLong)?;
+            Text::read(bytes.as_slice())
+        } else {
+            Text::read(self.text)
         }
     }
 
@@ -183,9 +182,12 @@ fn first_word(line: &[u8]) -> Option<(SpelledWord<'_>, &[u8])>
 {
     let first = line.first()?;
     if *first == b'"' {
-        Some(quoted_word(&line[1..]))
+        let inside = &line[1..];
+        let end = word_end(inside, true);
+        Some((word_of(&inside[..end]), &inside[end + 1..]))
     } else {
-        Some(bare_word(line))
+        let end = word_end(line, false);
+        Some((word_of(&line[..end]), &line[end..]))
     }
 }
 
@@ -201,37 +203,6 @@ fn skip_blanks(line: &[u8]) -> &[u8]
         }
     }
     &line[line.len()..]
-}
-
-/// The bare word at the front of the line, and the rest of the line.
-fn bare_word(line: &[u8]) -> (SpelledWord<'_>, &[u8])
-    requires short { length line.now ≤ LINE_LIMIT }
-    requires reads { is_ok (read_from line.now Bare) ≡ true }
-    ensures takes { TakesWord (read_from line.now Bare) (spelled result.0) result.1.now }
-    ensures short { length result.1.now ≤ length line.now }
-{
-    let end = word_end(line, false);
-    (word_of(&line[..end]), &line[end..])
-}
-
-/// The word at the front of what is after its opening quote, and the rest of the line.
-fn quoted_word(inside: &[u8]) -> (SpelledWord<'_>, &[u8])
-    requires short { length inside.now ≤ LINE_LIMIT }
-    requires reads { is_ok (read_from inside.now Quoted) ≡ true }
-    ensures takes { TakesWord (read_from inside.now Quoted) (spelled result.0) result.1.now }
-    ensures short { length result.1.now ≤ length inside.now }
-{
-    let end = closing_quote(inside);
-    (word_of(&inside[..end]), &inside[end + 1..])
-}
-
-/// The place of the closing quote.
-fn closing_quote(inside: &[u8]) -> usize
-    requires { is_ok (read_from inside.now Quoted) ≡ true }
-    ensures value { result ≡ word_end inside.now Quoted }
-    ensures within { result < length inside.now }
-{
-    word_end(inside, true)
 }
 
 /// The word that is spelled so.
