@@ -3,7 +3,7 @@ use Rattle.std.specs.Prelude.{slice_get}
 use Rattle.std.proofs.lemmas.Bool.{ne_eqb}
 use Rattle.nutwords.specs.Scan.{read_line, read_from}
 use Rattle.nutwords.specs.Split.{StartsInWord, TakesWord, word_end, unescaped}
-use Rattle.nutwords.specs.declared.scan.Place.TheVariants.{Bare, Quoted}
+use Rattle.nutwords.specs.declared.scan.ScanState.TheVariants.{Bare, Quoted}
 use Rattle.nutwords.proofs.Lines.{take-all}
 use Rattle.nutwords.proofs.Splitting.{TakesWord-bare, TakesWord-quoted, read_line-bare, read_line-quoted, word_end-quoted}
 use Rattle.nutwords.proofs.spelled.first_word.Goals as goal
