@@ -2,10 +2,11 @@
 ghost use Rattle.std.specs.Prelude.{◌≡◌, ◌≤◌, ◌<◌, ◌==◌, length, IfSome, List, ℕ, MatchOption, true, false, [], is_ok, is_some, not};
 ghost use Rattle.nutwords.specs.Keyword.{is_word};
 ghost use Rattle.nutwords.specs.Reading.{read_text};
-ghost use Rattle.nutwords.specs.Scan.{read_line};
+ghost use Rattle.nutwords.specs.Scan.{read_from, read_line};
 ghost use Rattle.nutwords.specs.Spelled.{spelled, holds_escapes, is_borrowed};
-ghost use Rattle.nutwords.specs.Split.{unescaped, TakesWord, StartsInWord};
+ghost use Rattle.nutwords.specs.Split.{unescaped, word_end, TakesWord, StartsInWord};
 ghost use Rattle.nutwords.specs.Word.{bytes_of};
+ghost use Rattle.nutwords.specs.declared.scan.ScanState.TheVariants.{Bare, Quoted};
 
 use crate::scan::word_end;
 use crate::{BadName, LINE_LIMIT, Text, TextKind, Word};
@@ -182,12 +183,9 @@ fn first_word(line: &[u8]) -> Option<(SpelledWord<'_>, &[u8])>
 {
     let first = line.first()?;
     if *first == b'"' {
-        let inside = &line[1..];
-        let end = word_end(inside, true);
-        Some((word_of(&inside[..end]), &inside[end + 1..]))
+        Some(quoted_word(&line[1..]))
     } else {
-        let end = word_end(line, false);
-        Some((word_of(&line[..end]), &line[end..]))
+        Some(bare_word(line))
     }
 }
 
@@ -203,6 +201,37 @@ fn skip_blanks(line: &[u8]) -> &[u8]
         }
     }
     &line[line.len()..]
+}
+
+/// The bare word at the front of the line, and the rest of the line.
+fn bare_word(line: &[u8]) -> (SpelledWord<'_>, &[u8])
+    requires short { length line.now ≤ LINE_LIMIT }
+    requires reads { is_ok (read_from line.now Bare) ≡ true }
+    ensures takes { TakesWord (read_from line.now Bare) (spelled result.0) result.1.now }
+    ensures short { length result.1.now ≤ length line.now }
+{
+    let end = word_end(line, false);
+    (word_of(&line[..end]), &line[end..])
+}
+
+/// The word at the front of what is after its opening quote, and the rest of the line.
+fn quoted_word(inside: &[u8]) -> (SpelledWord<'_>, &[u8])
+    requires short { length inside.now ≤ LINE_LIMIT }
+    requires reads { is_ok (read_from inside.now Quoted) ≡ true }
+    ensures takes { TakesWord (read_from inside.now Quoted) (spelled result.0) result.1.now }
+    ensures short { length result.1.now ≤ length inside.now }
+{
+    let end = closing_quote(inside);
+    (word_of(&inside[..end]), &inside[end + 1..])
+}
+
+/// The place of the closing quote.
+fn closing_quote(inside: &[u8]) -> usize
+    requires { is_ok (read_from inside.now Quoted) ≡ true }
+    ensures value { result ≡ word_end inside.now Quoted }
+    ensures within { result < length inside.now }
+{
+    word_end(inside, true)
 }
 
 /// The word that is spelled so.
