@@ -6,30 +6,30 @@ use Rattle.nutwords.specs.Scan.{class_of, turn, with_byte, with_end, read_from, 
 use Rattle.nutwords.specs.declared.faults.BadLine.{BadLine}
 use Rattle.nutwords.specs.declared.scan.Class.{Class}
 use Rattle.nutwords.specs.declared.scan.Class.TheVariants.{Blank, Quote, Backslash, Other, Control}
-use Rattle.nutwords.specs.declared.scan.Place.{Place}
-use Rattle.nutwords.specs.declared.scan.Place.TheVariants.{Between, Bare, BareEscape, Quoted, QuotedEscape, Closed}
+use Rattle.nutwords.specs.declared.scan.ScanState.{ScanState}
+use Rattle.nutwords.specs.declared.scan.ScanState.TheVariants.{Between, Bare, BareEscape, Quoted, QuotedEscape, Closed}
 use Rattle.nutwords.proofs.Classes.{class_of-blank, class_of-bare, quotable_kinds, not_control}
 
 -- a byte of a known class
-turn_at : (b : ℕ) (line : List ℕ) (place : Place) (k : Class) → class_of b ≡ k → read_from (b ∷ line) place ≡ turn b place k (λ next. read_from line next)
+turn_at : (b : ℕ) (line : List ℕ) (place : ScanState) (k : Class) → class_of b ≡ k → read_from (b ∷ line) place ≡ turn b place k (λ next. read_from line next)
 turn_at b line place k e = ap (λ c. turn b place c (λ next. read_from line next)) e
 
 -- an escaped byte stands for itself
-bare_escape : (b : ℕ) (k : Class) (rest : Place → Result (List (List ℕ)) BadLine) → (k ≡ Control → ⊥) → turn b BareEscape k rest ≡ with_byte b (rest Bare)
+bare_escape : (b : ℕ) (k : Class) (rest : ScanState → Result (List (List ℕ)) BadLine) → (k ≡ Control → ⊥) → turn b BareEscape k rest ≡ with_byte b (rest Bare)
 bare_escape b Blank rest n = refl
 bare_escape b Quote rest n = refl
 bare_escape b Backslash rest n = refl
 bare_escape b Other rest n = refl
 bare_escape b Control rest n = absurd (n refl)
 
-quoted_escape : (b : ℕ) (k : Class) (rest : Place → Result (List (List ℕ)) BadLine) → (k ≡ Control → ⊥) → turn b QuotedEscape k rest ≡ with_byte b (rest Quoted)
+quoted_escape : (b : ℕ) (k : Class) (rest : ScanState → Result (List (List ℕ)) BadLine) → (k ≡ Control → ⊥) → turn b QuotedEscape k rest ≡ with_byte b (rest Quoted)
 quoted_escape b Blank rest n = refl
 quoted_escape b Quote rest n = refl
 quoted_escape b Backslash rest n = refl
 quoted_escape b Other rest n = refl
 quoted_escape b Control rest n = absurd (n refl)
 
-quoted_itself : (b : ℕ) (k : Class) (rest : Place → Result (List (List ℕ)) BadLine) → (k ≡ Blank) ⊎ (k ≡ Other) → turn b Quoted k rest ≡ with_byte b (rest Quoted)
+quoted_itself : (b : ℕ) (k : Class) (rest : ScanState → Result (List (List ℕ)) BadLine) → (k ≡ Blank) ⊎ (k ≡ Other) → turn b Quoted k rest ≡ with_byte b (rest Quoted)
 quoted_itself b k rest (inl e) = rw e refl
 quoted_itself b k rest (inr e) = rw e refl
 

@@ -7,7 +7,7 @@ use Rattle.std.proofs.lemmas.List.{at_drop_more}
 use Rattle.nutwords.specs.Split.{inside, in_word, one_more, word_end}
 use Rattle.nutwords.specs.declared.scan.Class.{Class}
 use Rattle.nutwords.specs.declared.scan.Class.TheVariants.{Blank, Quote, Backslash, Other, Control}
-use Rattle.nutwords.specs.declared.scan.Place.TheVariants.{Bare, Quoted}
+use Rattle.nutwords.specs.declared.scan.ScanState.TheVariants.{Bare, Quoted}
 use Rattle.nutwords.proofs.Classes.{Kind, kind}
 use Rattle.nutwords.proofs.Classes as classes
 

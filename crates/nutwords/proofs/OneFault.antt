@@ -10,28 +10,28 @@ use Rattle.nutwords.specs.Scan.{class_of, step, finish, read_line}
 use Rattle.nutwords.specs.declared.faults.BadLine.{BadLine}
 use Rattle.nutwords.specs.declared.scan.Class.{Class}
 use Rattle.nutwords.specs.declared.scan.Class.TheVariants.{Blank, Quote, Backslash, Other, Control}
-use Rattle.nutwords.specs.declared.scan.Place.{Place}
-use Rattle.nutwords.specs.declared.scan.Place.TheVariants.{Between, Bare, BareEscape, Quoted, QuotedEscape, Closed}
+use Rattle.nutwords.specs.declared.scan.ScanState.{ScanState}
+use Rattle.nutwords.specs.declared.scan.ScanState.TheVariants.{Between, Bare, BareEscape, Quoted, QuotedEscape, Closed}
 use Rattle.nutwords.proofs.Classes.{class_of-blank, class_of-bare, quotable_kinds, not_control}
 use Rattle.nutwords.proofs.Stands.{Begins-front}
 use Rattle.nutwords.proofs.FaultLemmas.{At, At-start, At-step, At-fault, At-stuck, At-end, FaultOf, IsFault-no_words}
 use Rattle.nutwords.proofs.Complete.{read_line-complete}
 
 -- the bytes lead the scan from one place to another
-data Leads : Place → List ℕ → Place → Type 0 where
-  here : {place : Place} → Leads place [] place
-  on : {place next last : Place} {b : ℕ} {bytes : List ℕ} → step place (class_of b) ≡ Ok next → Leads next bytes last → Leads place (b ∷ bytes) last
+data Leads : ScanState → List ℕ → ScanState → Type 0 where
+  here : {place : ScanState} → Leads place [] place
+  on : {place next last : ScanState} {b : ℕ} {bytes : List ℕ} → step place (class_of b) ≡ Ok next → Leads next bytes last → Leads place (b ∷ bytes) last
 
-ok_same : (p q : Place) → ◌≡◌ {A = Result Place BadLine} (Ok p) (Ok q) → p ≡ q
+ok_same : (p q : ScanState) → ◌≡◌ {A = Result ScanState BadLine} (Ok p) (Ok q) → p ≡ q
 ok_same p q h = cc
 
 -- to one place only
-Leads-one : (place p q : Place) (bytes : List ℕ) → Leads place bytes p → Leads place bytes q → p ≡ q
+Leads-one : (place p q : ScanState) (bytes : List ℕ) → Leads place bytes p → Leads place bytes q → p ≡ q
 Leads-one place _ _ _ here here = refl
 Leads-one place p q _ (on {next = n} {bytes = bytes} h l) (on {next = m} h' l') =
     Leads-one n p q bytes l (subst (λ x. Leads x bytes q) (ok_same m n (sym h' ∙ h)) l')
 
-Leads-append : (place p q : Place) (a b : List ℕ) → Leads place a p → Leads p b q → Leads place (a ++ b) q
+Leads-append : (place p q : ScanState) (a b : List ℕ) → Leads place a p → Leads p b q → Leads place (a ++ b) q
 Leads-append place _ q _ b here r = r
 Leads-append place p q _ b (on {next = n} {bytes = bytes} h l) r = on h (Leads-append n p q bytes b l r)
 
@@ -80,24 +80,24 @@ bare_then_backslash _ _ (escaped {b = b} {text = text} {word = w} h u) =
 open_quote_at : (text inside w : List ℕ) → Units is_quotable inside w → text ≡ 34 ∷ inside → Leads Between text Quoted
 open_quote_at text inside w u e = subst (λ t. Leads Between t Quoted) (sym e) (on {next = Quoted} refl (quoted_units inside w u))
 
-quoted_then : (b : ℕ) (last : Place) (text inside w : List ℕ) → step Quoted (class_of b) ≡ Ok last → Units is_quotable inside w → text ≡ 34 ∷ (inside ++ b ∷ []) → Leads Between text last
+quoted_then : (b : ℕ) (last : ScanState) (text inside w : List ℕ) → step Quoted (class_of b) ≡ Ok last → Units is_quotable inside w → text ≡ 34 ∷ (inside ++ b ∷ []) → Leads Between text last
 quoted_then b last text inside w h u e =
     subst (λ t. Leads Between t last) (sym e) (on {next = Quoted} refl (Leads-append Quoted Quoted last inside (b ∷ []) (quoted_units inside w u) (on h here)))
 
 -- where a line leads to: a place where a blank may follow
-abbrev LeadsToEnd : Place → List ℕ → Type 0
-LeadsToEnd place bytes = (last : Place) × Leads place bytes last × (step last Blank ≡ Ok Between)
+abbrev LeadsToEnd : ScanState → List ℕ → Type 0
+LeadsToEnd place bytes = (last : ScanState) × Leads place bytes last × (step last Blank ≡ Ok Between)
 
 Spells-leads : (text w : List ℕ) → Spells text w → LeadsToEnd Between text
 Spells-leads text w (bare h) = (Bare, bare_word text w h.0 h.1, refl)
 Spells-leads text w (quoted h) = (Closed, quoted_then 34 Closed text h.0 w refl h.1 h.2, refl)
 
 -- what follows a word is as if it stood alone
-behind_word : (place : Place) (rest : List ℕ) → step place Blank ≡ Ok Between → WordEndsBefore rest → LeadsToEnd Between rest → LeadsToEnd place rest
+behind_word : (place : ScanState) (rest : List ℕ) → step place Blank ≡ Ok Between → WordEndsBefore rest → LeadsToEnd Between rest → LeadsToEnd place rest
 behind_word place [] h a r = (place, here, h)
 behind_word place (b ∷ rest) h a r = go r.0 r.1 r.2
   where
-    go : (last : Place) → Leads Between (b ∷ rest) last → step last Blank ≡ Ok Between → LeadsToEnd place (b ∷ rest)
+    go : (last : ScanState) → Leads Between (b ∷ rest) last → step last Blank ≡ Ok Between → LeadsToEnd place (b ∷ rest)
     go last (on {next = n} k l) e =
         let same = ok_same n Between (sym k ∙ ap (step Between) (class_of-blank b a)) in
         (last, on (ap (step place) (class_of-blank b a) ∙ h) (subst (λ x. Leads x rest last) same l), e)
@@ -119,7 +119,7 @@ boundary_leads front ws (before_blank {line = line} b r h e) =
     subst (λ x. Leads Between x Between) (sym e) (Leads-append Between q.0 Between line (b ∷ []) q.1 (on (ap (step q.0) (class_of-blank b h) ∙ q.2) here))
 
 -- the bytes end in a part of a word, which leads to this place
-EndsIn-leads : (IsPart : List ℕ → List ℕ → Type 0) (last : Place) (front : List ℕ) → ((part w : List ℕ) → IsPart part w → Leads Between part last) → EndsIn IsPart front → Leads Between front last
+EndsIn-leads : (IsPart : List ℕ → List ℕ → Type 0) (last : ScanState) (front : List ℕ) → ((part w : List ℕ) → IsPart part w → Leads Between part last) → EndsIn IsPart front → Leads Between front last
 EndsIn-leads P last front part s = subst (λ x. Leads Between x last) (sym s.whole) (Leads-append Between Between last s.before s.part (boundary_leads s.before s.words s.apart) (part s.part s.word s.is_part))
 
 in_bare_word : (front : List ℕ) → EndsInBareWord front → Leads Between front Bare
@@ -196,18 +196,18 @@ IsFault-one line e f (at_end b n x) (at_end b' n' y) = IsEndFault-one line e f x
 abbrev pub Computed : List ℕ → Type 0
 Computed line = ((words : List (List ℕ)) × Reads line words) ⊎ ((fault : BadLine) × FaultOf line fault)
 
-computed_at_end : (place : Place) (line : List ℕ) → At place line → Computed line
+computed_at_end : (place : ScanState) (line : List ℕ) → At place line → Computed line
 computed_at_end place line a = go (finish place) refl (At-end place line a)
   where
     go : (r : Result (List (List ℕ)) BadLine) → finish place ≡ r → MatchResult r (λ _. (ws : List (List ℕ)) × Reads line ws) (λ e. IsFault line e) → Computed line
     go (Ok x) h m = inl m
     go (Err e) h m = inr (e, (m, ap read_line (sym (append-nil line)) ∙ a.leads [] e h))
 
-computed_from : (rest : List ℕ) (place : Place) (front : List ℕ) → At place front → Computed (front ++ rest)
+computed_from : (rest : List ℕ) (place : ScanState) (front : List ℕ) → At place front → Computed (front ++ rest)
 computed_from [] place front a = subst Computed (sym (append-nil front)) (computed_at_end place front a)
 computed_from (b ∷ rest) place front a = go (λ next at. computed_from rest next (front ++ b ∷ []) at) (step place (class_of b)) refl
   where
-    go : ((next : Place) → At next (front ++ b ∷ []) → Computed ((front ++ b ∷ []) ++ rest)) → (r : Result Place BadLine) → step place (class_of b) ≡ r → Computed (front ++ b ∷ rest)
+    go : ((next : ScanState) → At next (front ++ b ∷ []) → Computed ((front ++ b ∷ []) ++ rest)) → (r : Result ScanState BadLine) → step place (class_of b) ≡ r → Computed (front ++ b ∷ rest)
     go goes_on (Ok next) h = subst Computed (append_assoc front (b ∷ []) rest) (goes_on next (At-step place next front b a h))
     go goes_on (Err e) h = inr (e, (At-fault place front b rest e a h, At-stuck place front b e rest a h))
 

@@ -6,14 +6,14 @@ use Rattle.nutwords.specs.Fault.{Begins, EndsIn, EndsInBareWord, EndsInQuotedWor
 use Rattle.nutwords.specs.Scan.{step, finish}
 use Rattle.nutwords.specs.declared.scan.Class.{Class}
 use Rattle.nutwords.specs.declared.scan.Class.TheVariants.{Blank, Quote, Backslash, Other, Control}
-use Rattle.nutwords.specs.declared.scan.Place.{Place}
-use Rattle.nutwords.specs.declared.scan.Place.TheVariants.{Between, Bare, BareEscape, Quoted, QuotedEscape, Closed}
+use Rattle.nutwords.specs.declared.scan.ScanState.{ScanState}
+use Rattle.nutwords.specs.declared.scan.ScanState.TheVariants.{Between, Bare, BareEscape, Quoted, QuotedEscape, Closed}
 use Rattle.nutwords.proofs.Classes.{Kind, kind, lawful_of, lawful_quotable, quotable_bare}
 use Rattle.nutwords.proofs.Classes as classes
 use Rattle.nutwords.proofs.Joins.{Units-append, Reads-behind, Reads-word}
 
 -- what the place of the scan says of the bytes so far
-abbrev pub Stands : Place → List ℕ → Type 0
+abbrev pub Stands : ScanState → List ℕ → Type 0
 Stands Between front = (ws : List (List ℕ)) × ReadsToBoundary front ws
 Stands Bare front = EndsInBareWord front
 Stands BareEscape front = EndsInBareBackslash front
@@ -104,7 +104,7 @@ quoted_escaped front b h s = record {
 }
 
 -- One byte more leads to the next place, or is the fault that the step answers.
-pub Stands-step : (place : Place) (front : List ℕ) (b : ℕ) (k : Class) → Kind b k → Stands place front → MatchResult (step place k) (λ next. Stands next (front ++ b ∷ [])) (λ e. IsByteFault front b e)
+pub Stands-step : (place : ScanState) (front : List ℕ) (b : ℕ) (k : Class) → Kind b k → Stands place front → MatchResult (step place k) (λ next. Stands next (front ++ b ∷ [])) (λ e. IsByteFault front b e)
 Stands-step Between front b Blank (classes.blank h q) s = blank_behind front b (s.0, Reads-from_apart front s.0 s.1) h
 Stands-step Between front b Quote (classes.quote e) s = record {
   before = front;
@@ -185,7 +185,7 @@ Stands-step QuotedEscape front b Control (classes.control h) s = control (λ l. 
 Stands-step Closed front b Control (classes.control h) s = control (λ l. let bad : true ≡ false = sym l ∙ h in cc)
 
 -- What the end of the line is there: a line of words, or the fault.
-pub Stands-finish : (place : Place) (line : List ℕ) → Stands place line → MatchResult (finish place) (λ _. (ws : List (List ℕ)) × Reads line ws) (λ e. IsEndFault line e)
+pub Stands-finish : (place : ScanState) (line : List ℕ) → Stands place line → MatchResult (finish place) (λ _. (ws : List (List ℕ)) × Reads line ws) (λ e. IsEndFault line e)
 Stands-finish Between line s = (s.0, Reads-from_apart line s.0 s.1)
 Stands-finish Bare line s = Reads-from_word line IsBareWord bare_spells s
 Stands-finish BareEscape line s = bare_backslash s
@@ -194,7 +194,7 @@ Stands-finish QuotedEscape line s = quoted_backslash s
 Stands-finish Closed line s = Reads-from_word line IsQuotedWord quoted_spells s
 
 -- The bytes so far begin a line.
-pub Stands-begins : (place : Place) (front : List ℕ) → Stands place front → Begins front
+pub Stands-begins : (place : ScanState) (front : List ℕ) → Stands place front → Begins front
 Stands-begins Between front s = ([], s.0, Reads-at front (front ++ []) s.0 s.0 (sym (append-nil front)) refl (Reads-from_apart front s.0 s.1))
 Stands-begins Bare front s = let r = Reads-from_word front IsBareWord bare_spells s in ([], r.0, Reads-at front (front ++ []) r.0 r.0 (sym (append-nil front)) refl r.1)
 Stands-begins BareEscape front s = let r = Reads-from_word (front ++ 32 ∷ []) IsBareWord bare_spells (bare_escaped front 32 refl s) in (32 ∷ [], r.0, r.1)

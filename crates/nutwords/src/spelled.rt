@@ -6,10 +6,10 @@ ghost use Rattle.nutwords.specs.Scan.{read_from, read_line};
 ghost use Rattle.nutwords.specs.Spelled.{spelled, holds_escapes, is_borrowed};
 ghost use Rattle.nutwords.specs.Split.{unescaped, word_end, TakesWord, StartsInWord};
 ghost use Rattle.nutwords.specs.Word.{bytes_of};
-ghost use Rattle.nutwords.specs.declared.scan.Place.TheVariants.{Bare, Quoted};
+ghost use Rattle.nutwords.specs.declared.scan.ScanState.TheVariants.{Bare, Quoted};
 
 use crate::scan::word_end;
-use crate::{BadName, LINE_LIMIT, Text, TextKind, Word, is_word};
+use crate::{BadName, LINE_LIMIT, Text, TextKind, Word};
 use arrayvec::ArrayVec;
 use std::marker::Model;
 
@@ -64,9 +64,10 @@ impl<'a> SpelledWord<'a> {
     pub fn is_word(&self, keyword: &[u8]) -> bool
         ensures { result ≡ is_word (spelled self.now) keyword.now }
     {
-        match self.as_plain() {
-            Some(bytes) => is_word(bytes, keyword),
-            None => spells_word(self.text, keyword),
+        if self.is_escaped {
+            spells_word(self.text, keyword)
+        } else {
+            self.text.eq_ignore_ascii_case(keyword)
         }
     }
 
@@ -74,12 +75,11 @@ impl<'a> SpelledWord<'a> {
     pub fn read<K: TextKind, const MOST: usize>(&self) -> Result<Text<K, MOST>, BadName>
         ensures { result ≡ read_text K.allows K.MAY_BE_EMPTY MOST (spelled self.now) }
     {
-        match self.as_plain() {
-            Some(bytes) => Text::read(bytes),
-            None => {
-                let bytes = unescaped::<MOST>(self.text).ok_or(BadName::TooLong)?;
-                Text::read(bytes.as_slice())
-            }
+        if self.is_escaped {
+            let bytes = unescaped::<MOST>(self.text).ok_or(BadName::TooLong)?;
+            Text::read(bytes.as_slice())
+        } else {
+            Text::read(self.text)
         }
     }
 
