@@ -9,10 +9,9 @@ use std::fmt::Write;
 /// Prints what listings of two, of a hundred and of no variables cost, and a take of some of them, and a tick.
 pub fn print_costs(rt: &impl Print, alloc: Global) -> Result<()> {
     let two = "SETINFO ups.status \"OL\"\nSETINFO battery.charge \"100\"\n";
-    print_cost(rt, 2, costs(&mut new_server(alloc)?, two, 17)?)?;
-    let hundred = hundred_variables(alloc)?;
-    print_cost(rt, 100, costs(&mut new_server(alloc)?, hundred.as_str(), 4000)?)?;
-    print_cost(rt, 0, costs(&mut new_server(alloc)?, "", 0)?)
+    print_cost(rt, 2, costs(alloc, two, 17)?)?;
+    print_cost(rt, 100, costs_of_hundred(alloc)?)?;
+    print_cost(rt, 0, costs(alloc, "", 0)?)
 }
 
 fn print_cost(rt: &impl Print, count: u32, [listing, take, tick]: [Cost; 3]) -> Result<()> {
@@ -22,9 +21,13 @@ fn print_cost(rt: &impl Print, count: u32, [listing, take, tick]: [Cost; 3]) -> 
     Ok(())
 }
 
-/// What it costs that a client asks for the variables, once the driver has told these lines, then that it takes so many
+/// What it costs a new server that a client asks for the variables, once the driver has told these lines, then that it takes so many
 /// bytes, and then a tick.
-fn costs(server: &mut Server, told: &str, taken: usize) -> Result<[Cost; 3]> {
+fn costs(alloc: Global, told: &str, taken: usize) -> Result<[Cost; 3]> {
+    costs_of(&mut new_server(alloc)?, told, taken)
+}
+
+fn costs_of(server: &mut Server, told: &str, taken: usize) -> Result<[Cost; 3]> {
     server.driver_up(SU)?;
     server.driver_bytes(SU, told.as_bytes())?;
     server.driver_bytes(SU, b"DUMPDONE\nDATAOK\n")?;
@@ -37,21 +40,32 @@ fn costs(server: &mut Server, told: &str, taken: usize) -> Result<[Cost; 3]> {
     Ok([listing, take, server.cost()])
 }
 
-/// The lines that tell a hundred variables with values of 256 bytes.
-fn hundred_variables(alloc: Global) -> Result<String> {
+/// The same of a hundred variables with values of 256 bytes.
+fn costs_of_hundred(alloc: Global) -> Result<[Cost; 3]> {
     let mut told = String::new(alloc);
+    write_hundred(&mut told)?;
+    costs(alloc, told.as_str(), 4000)
+}
+
+fn write_hundred(told: &mut String) -> Result<()> {
     for number in 1..=100 {
         writeln!(told, "SETINFO v{number:03} \"{:x<256}\"", "")?;
     }
-    Ok(told)
+    Ok(())
 }
 
 /// Prints how many of a thousand ticks of one run are done.
 pub fn print_run(rt: &impl Print, alloc: Global) -> Result<()> {
-    let outcomes = new_server(alloc)?.run(&ticks(alloc)?)?;
-    let done = outcomes.iter().filter(|outcome| **outcome == Outcome::Done);
-    println!(rt; "{} of 1000 ticks are done", done.count())?;
+    let events = ticks(alloc)?;
+    let done = count_done(&mut new_server(alloc)?, &events)?;
+    println!(rt; "{done} of 1000 ticks are done")?;
     Ok(())
+}
+
+fn count_done(server: &mut Server, events: &[Event]) -> Result<usize> {
+    let outcomes = server.run(events)?;
+    let done = outcomes.iter().filter(|it| **it == Outcome::Done);
+    Ok(done.count())
 }
 
 fn ticks(alloc: Global) -> Result<Vec<Event>, AllocError> {
