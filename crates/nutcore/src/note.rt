@@ -188,8 +188,8 @@ impl Notes {
             Ok(Some(Command::Login(ups))) => (Verb::Login, ups, None),
             Ok(Some(Command::Primary(ups))) => (Verb::Primary, ups, None),
             Ok(Some(Command::Fsd(ups))) => (Verb::Fsd, ups, None),
-            Ok(Some(Command::SetVar(ups, name, _))) => (Verb::SetVar, ups, name.read()),
-            Ok(Some(Command::InstCmd(ups, name, _))) => (Verb::InstCmd, ups, name.read()),
+            Ok(Some(Command::SetVar(ups, name, _))) => (Verb::SetVar, ups, Some(name)),
+            Ok(Some(Command::InstCmd(ups, name, _))) => (Verb::InstCmd, ups, Some(name)),
             Ok(Some(Command::Logout)) => return self.add(session.logout()),
             _ => return,
         };
@@ -197,7 +197,10 @@ impl Notes {
             who: session.who(),
             verb,
             ups: ups.read(),
-            name,
+            name: match name {
+                Some(name) => name.read(),
+                None => None,
+            },
             refusal: refusal_in(text),
         })))
     }

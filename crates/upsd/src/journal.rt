@@ -87,9 +87,8 @@ impl Journal {
             → self.new.refused.items ≡ after_notes [] server.now.notes }
     {
         let moment = Some(server.current_moment());
-        let is_new = self.moment != moment;
+        let is_new = mem::replace(&mut self.moment, moment) != moment;
         if is_new {
-            self.moment = moment;
             self.refused.clear();
         }
         self.write_notes(server);

@@ -87,7 +87,7 @@ fn serve_words(alloc: Global) -> Result<Vec<Arg<'static>>, AllocError>
 {
     let ups = arg!(in alloc; --ups <F> "The list of UPSs, upsd.ups(5); not NUT's ups.conf");
     let listen = arg!(in alloc; --listen <"A:P"> "The IP address and port for clients");
-    let words = vec![in alloc;
+    Ok(vec![in alloc;
         ups.required(true),
         arg!(in alloc; --users <F> "The users and their rights, upsd.users(5)").required(true),
         vars(alloc),
@@ -101,8 +101,7 @@ fn serve_words(alloc: Global) -> Result<Vec<Arg<'static>>, AllocError>
         record_limit(alloc),
         arg!(in alloc; --priorities
             "Begin each line of the journal with its priority, as systemd reads it"),
-    ]?;
-    Ok(words)
+    ]?)
 }
 
 /// The word that names the file of a record.
@@ -136,13 +135,12 @@ fn replay_command<'a>(alloc: Global) -> Result<Command<'a>, AllocError>
 fn replay_words(alloc: Global) -> Result<Vec<Arg<'static>>, AllocError>
     ensures { IfOk result (λ words. AreWords replay_words words.items) }
 {
-    let words = vec![in alloc;
+    Ok(vec![in alloc;
         arg!(in alloc; --ups <F> "The list of UPSs, upsd.ups(5) [without it: only su]"),
         arg!(in alloc; --users <F> "The users and their rights, upsd.users(5) [without it: none]"),
         vars(alloc),
         arg!(in alloc; <SCRIPT> "The script of events"),
-    ]?;
-    Ok(words)
+    ]?)
 }
 
 /// The word that names the file of the descriptions.
