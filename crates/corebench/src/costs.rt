@@ -15,14 +15,17 @@ pub fn print_costs(rt: &impl Print, alloc: Global) -> Result<()> {
 }
 
 fn print_cost(rt: &impl Print, count: u32, [listing, take, tick]: [Cost; 3]) -> Result<()> {
-    println!(rt; "a listing of {count} variables makes {} lines: {} bytes", listing.rendered, listing.placed)?;
+    println!(rt;
+        "a listing of {count} variables makes {} lines: {} bytes",
+        listing.rendered, listing.placed
+    )?;
     println!(rt; "  a take {} lines: {} bytes", take.rendered, take.placed)?;
     println!(rt; "  a tick {} lines: {} bytes", tick.rendered, tick.placed)?;
     Ok(())
 }
 
-/// What it costs a new server that a client asks for the variables, once the driver has told these lines, then that it takes so many
-/// bytes, and then a tick.
+/// What it costs a new server that a client asks for the variables, once the driver has told these lines, then that it
+/// takes so many bytes, and then a tick.
 fn costs(alloc: Global, told: &str, taken: usize) -> Result<[Cost; 3]> {
     costs_of(&mut new_server(alloc)?, told, taken)
 }

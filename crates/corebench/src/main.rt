@@ -1,8 +1,8 @@
 //! What requests cost a server of one UPS with 4,096 variables.
 //!
 //! With no words it does a little of each load, and prints how many bytes clients took; and what no clause says of the
-//! server: that with ample memory its calls are done, what they cost then, and the texts of faults. With the words of a load and its
-//! counts it does that alone, so that the difference of two runs is the cost of what one of them does more:
+//! server: that with ample memory its calls are done, what they cost then, and the texts of faults. With the words of a
+//! load and its counts it does that alone, so that the difference of two runs is the cost of what one of them does more:
 //! `measure.sh` tells it.
 #![tactic(auto)]
 
