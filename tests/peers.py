@@ -41,10 +41,9 @@ class Relay:
         while True:
             near, far = self.listener.accept()[0], socket.socket(self.listener.family)
             far.setsockopt(socket.SOL_SOCKET, socket.SO_RCVBUF, 4096)
-            if far.connect_ex(self.there):
-                near.close()
-                continue
             self.kept.append(bytearray())
+            if far.connect_ex(self.there):
+                near.shutdown(socket.SHUT_WR)
             ours, theirs = (near, far) if near.family == socket.AF_UNIX else (far, near)
             for words in (ours, theirs, self.kept[-1]), (theirs, ours, bytearray()):
                 threading.Thread(target=hand_on, args=words, daemon=True).start()
