@@ -58,8 +58,6 @@ def build_all(crates):
 
 def main(names):
     rtlib.guarded()
-    # As with `rt check`, checkouts on this machine share what was proved of the same files.
-    rt.share_work(is_alone=False)
     programs = [it for it in rtlib.crates_below(os.getcwd()) if it.name in names]
     crates = {*programs, *[dep for it in programs for dep in it.below()]}
     return 0 if len(build_all(crates)) == len(crates) else 1
