@@ -137,27 +137,30 @@ def is_there(crate):
     return os.path.isdir(crate.rlib) and (crate.is_built() or not os.path.isfile(f"{os.path.dirname(crate.rlib)}/stamp"))
 
 
+def seeds_of(crate):
+    """Returns folders with what was proved of the whole crate by `rt ci`, while it tries must-fail/ over it, or by `rt check`."""
+    rooms = glob.glob(f"{tempfile.gettempdir()}/rt-edits-*")
+    seeds = [*rooms, *[f"{it}/seed" for it in rooms], f"{crate.folder}/out/incremental"]
+    return [it for it in seeds if glob.glob(f"{it}/*/Rattle-{crate.name}-proofs.oantt")]
+
+
 def is_ready(crate, said):
     """Tells whether `rt ci`, which said this, has ended, or has built what is below a crate. If it tries several wrong
-    bodies of the crate it begins with a proof of the crate as it stands, which serves here too."""
+    bodies of the crate it begins with a proof of the whole crate, which serves here too."""
     if re.search(r"^\d+ passed, \d+ failed$", said, re.M):
         return True
     if len(rt.edits_of(crate)[0]) > 1:
-        return f"rt: {crate.name}: trying its must-fail edits" in said
+        return bool(seeds_of(crate))
     return {it.name for it in crate.below()} <= set(re.findall(r"^rt: (\S+) (?:proved|is kept)", said, re.M))
 
 
 def begin(crate):
-    """Returns a new folder, with what was proved of the crate: by `rt ci` to try must-fail/ over, while it keeps that, or by
-    `rt check`."""
+    """Returns a new folder, with what was proved of the crate."""
     kept = tempfile.mkdtemp(prefix="edits-kept-")
-    for seed in [*glob.glob(f"{tempfile.gettempdir()}/rt-edits-*/seed"), f"{crate.folder}/out/incremental"]:
-        if glob.glob(f"{seed}/*/Rattle-{crate.name}-proofs.oantt"):
-            shutil.rmtree(kept, ignore_errors=True)
-            # It may go meanwhile.
-            with contextlib.suppress(OSError, shutil.Error):
-                rt.linked(seed, kept)
-                return kept
+    for seed in seeds_of(crate)[:1]:
+        # It may go meanwhile. A check replaces files, and changes none.
+        with contextlib.suppress(OSError, shutil.Error):
+            shutil.copytree(seed, kept, copy_function=os.link, dirs_exist_ok=True)
     return kept
 
 
