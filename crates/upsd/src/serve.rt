@@ -151,12 +151,25 @@ fn serve_over<'a>(
     let address = service.address;
     let mut journal = Journal::new(rt.alloc(), service).map_err(|_| Ending::Memory)?;
     warn(rt, files, server.ups(), server.users());
-    let mut out = CountedWriter::new(io::writer(rt));
-    match sockets.sockets.local_addr() {
-        Ok(bound) => tell_address(rt.alloc(), &mut out, bound)?,
-        Err(error) => return Err(ending_of_listening(address, &error)),
+    match tell_bound(rt, address, sockets.sockets.local_addr()) {
+        Ok(()) => go_round(rt, server, sockets, &mut journal),
+        Err(ending) => Err(ending),
     }
-    go_round(rt, server, sockets, &mut journal)
+}
+
+/// Prints the address at which clients are listened for, if it is known.
+fn tell_bound<'a>(
+    rt: &HostRuntime,
+    address: SocketAddr,
+    bound: io::Result<SocketAddr>,
+) -> Result<(), Ending<'a>>
+    ensures { IfErr result (IsEndOfServing address) }
+{
+    let mut out = CountedWriter::new(io::writer(rt));
+    match bound {
+        Ok(bound) => tell_address(rt.alloc(), &mut out, bound),
+        Err(error) => Err(ending_of_listening(address, &error)),
+    }
 }
 
 /// Goes round the peers up to the first fault of the loop, and writes what is new. Whatever the
