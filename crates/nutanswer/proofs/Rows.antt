@@ -1,5 +1,5 @@
 -- A row of the table, by what its checks find together.
-use Rattle.std.proofs.Common.{arith, ◌≡◌, ℕ, List, Option, Result, Ok, Err, refl, sym, ap, ◌∙◌}
+use Rattle.std.proofs.Common.{arith, ◌≡◌, ℕ, List, Option, Some, Result, Ok, Err, refl, sym, ap, ◌∙◌}
 use Rattle.nutdriver.specs.Variable.{VariableState}
 use Rattle.nutanswer.specs.declared.err_word.ErrWord.{ErrWord}
 use Rattle.nutusers.specs.declared.rights.Right.TheVariants.{Set}
@@ -77,6 +77,13 @@ row_of_value x word next =
     after_test (readonly x) (too_long x word >>= (λ value. invalid_value x value >> next value)) (too_long x word >>= (λ value. invalid_value x value >> Ok value)) next
     (after_check (too_long x word) (λ value. invalid_value x value >> next value) (λ value. invalid_value x value >> Ok value) next
     (λ value. after_test (invalid_value x value) (next value) (Ok value) next refl))
+
+-- such a value is that of the word
+pub settable_is : (x : VariableState) (word : Option (List ℕ)) (value : List ℕ) → Ok value ≡ settable x word → word ≡ Some value
+settable_is x word value h = given (readonly x) (λ v. invalid_value x v) h
+  where
+    given : (first : Result (Unit {0}) ErrWord) (last : List ℕ → Result (Unit {0}) ErrWord) → Ok value ≡ (first >> (too_long x word >>= (λ v. last v >> Ok v))) → word ≡ Some value
+    given first last h = grind arith
 
 -- the end of SET VAR: the id that it uses, and the line, which fits and is owed
 abbrev pub set_end : Seen → AskerSeen → KnownUps → List ℕ → List ℕ → Result Answer ErrWord

@@ -1,6 +1,6 @@
 //! The checks of commands (RFC 9271: error responses), each in the order of the table.
 ghost use Rattle.std.specs.Prelude.{◌≡◌};
-ghost use Rattle.std.specs.Result.{result_ok};
+ghost use Rattle.std.specs.Option.{option_copied};
 ghost use Rattle.nutanswer.specs.View.{asker_seen};
 ghost use Rattle.nutanswer.specs.Checks.{unknown_ups, user, too_long_of_command, no_id};
 ghost use Rattle.nutanswer.specs.Orders.{instcmd_right, is_short_enough, is_listed, is_in_ranges, is_within_one};
@@ -10,7 +10,7 @@ use crate::err_word::Checked;
 use crate::{Asker, ErrWord, UpsView, UpsWord, ValueWord, View};
 use nutdriver::{Range, Variable, read_number};
 use nutusers::{Right, UpsId};
-use nutwords::{BadName, Name, UpsName, Value};
+use nutwords::{Name, UpsName, Value};
 
 /// A UPS that is there.
 #[derive(Clone, Copy)]
@@ -52,9 +52,10 @@ pub(crate) fn user_of_command<V: View>(
 pub(crate) fn known_ups<'a, V: View>(view: &'a V, ups: &UpsWord<'_>) -> Checked<Known<'a>>
     ensures { found known_ups result ≡ unknown_ups (V.seen view.now) ups.now }
 {
-    let word = ups.read().ok_or(ErrWord::UnknownUps)?;
+    let mut held = None;
+    let word = ups.bytes(&mut held).ok_or(ErrWord::UnknownUps)?;
     let list = view.list();
-    let id = list.find(word.as_bytes()).ok_or(ErrWord::UnknownUps)?;
+    let id = list.find(word).ok_or(ErrWord::UnknownUps)?;
     let name = list.name(id).ok_or(ErrWord::UnknownUps)?;
     let state = view.ups(id).ok_or(ErrWord::UnknownUps)?;
     Ok(Known {
@@ -113,16 +114,13 @@ pub(crate) fn live_command<'a, V: View>(
 }
 
 /// The value, where it is one, and the variable may be set to it.
-pub(crate) fn settable<'v>(
-    variable: &Variable,
-    value: &'v Result<Value, BadName>,
-) -> Checked<&'v Value>
-    ensures { found (λ value. value.now) result ≡ settable variable.now (result_ok value.now) }
+pub(crate) fn settable<'v>(variable: &Variable, value: Option<&'v [u8]>) -> Checked<&'v [u8]>
+    ensures { found (λ value. value.now) result ≡ settable variable.now (option_copied value.entry) }
 {
     if !variable.flags().rw {
         return Err(ErrWord::Readonly);
     }
-    let value = value.as_ref().or(Err(ErrWord::TooLong))?;
+    let value = value.ok_or(ErrWord::TooLong)?;
     if !is_short_enough(variable, value) {
         return Err(ErrWord::TooLong);
     }
@@ -157,25 +155,25 @@ pub(crate) fn order_id<V: View>(
 }
 
 /// Whether a text is as short as the variable asks for.
-fn is_short_enough(variable: &Variable, value: &Value) -> bool
+fn is_short_enough(variable: &Variable, value: &[u8]) -> bool
     ensures { result ≡ is_short_enough variable.now value.now }
 {
     let most = variable.aux();
-    !variable.flags().string || most == 0 || value.as_bytes().len() <= most as usize
+    !variable.flags().string || most == 0 || value.len() <= most as usize
 }
 
 /// Whether the value is among these, where there are any.
-fn is_listed(values: &[Value], value: &Value) -> bool
+fn is_listed(values: &[Value], value: &[u8]) -> bool
     ensures { result ≡ is_listed values.now value.now }
 {
-    values.is_empty() || values.contains(value)
+    values.is_empty() || values.iter().any(|listed| listed.as_bytes() == value)
 }
 
 /// Whether the value is a number within one of these ranges, where there are any.
-fn is_in_ranges(ranges: &[Range], value: &Value) -> bool
+fn is_in_ranges(ranges: &[Range], value: &[u8]) -> bool
     ensures { result ≡ is_in_ranges ranges.now value.now }
 {
-    ranges.is_empty() || is_within_one(ranges, read_number(value.as_bytes()))
+    ranges.is_empty() || is_within_one(ranges, read_number(value))
 }
 
 /// Whether there is a number, and it is within one of these ranges, its ends included.

@@ -1,5 +1,5 @@
 //! The line of an order to a driver.
-ghost use Rattle.std.specs.Prelude.{◌≡◌, ◌≤◌, ◌+◌, ◌∷◌, ◌++◌, codes, length, Some};
+ghost use Rattle.std.specs.Prelude.{◌≡◌, ◌≤◌, ◌+◌, ◌∷◌, ◌++◌, codes, length, IfSome, Some};
 ghost use Rattle.std.specs.Option.{option_copied};
 ghost use Rattle.nuttracking.specs.Id.{id_text};
 ghost use Rattle.nutwords.specs.Frame.{line_of};
@@ -7,7 +7,7 @@ ghost use Rattle.nutwords.specs.Spelling.{quoted};
 ghost use Rattle.nutanswer.specs.Orders.{order_line, ok_words};
 
 use nuttracking::{ID_LENGTH, id_text};
-use nutwords::{Line, NAME_LIMIT, Name, VALUE_LIMIT, Value, quote_into};
+use nutwords::{Line, NAME_LIMIT, Name, VALUE_LIMIT, quote_into};
 
 /// The most bytes of an order's verb: `INSTCMD`.
 const VERB_LIMIT: usize = 7;
@@ -29,11 +29,12 @@ pub(crate) const ORDER_LINE_LIMIT: usize = ORDER_LIMIT + TRACKING_LENGTH + 1;
 pub(crate) fn order_line_into(
     verb: &[u8],
     name: &Name,
-    value: Option<&Value>,
+    value: Option<&[u8]>,
     id: Option<u128>,
     line: &mut Line,
 )
-    requires { length verb.now ≤ VERB_LIMIT }
+    requires verb { length verb.now ≤ VERB_LIMIT }
+    requires value { IfSome value (λ value. length value.now ≤ VALUE_LIMIT) }
     ensures text { line.new.items ≡ order_line verb.now name.now (option_copied value.entry) id }
     ensures short { length line.new.items ≤ ORDER_LINE_LIMIT }
 {
@@ -72,11 +73,12 @@ fn push_tracking(line: &mut Line, id: u128)
 }
 
 /// Appends a value in quotes.
-fn push_value(line: &mut Line, value: &Value)
-    requires { length line.old.items ≤ ORDER_FRONT_LIMIT }
+fn push_value(line: &mut Line, value: &[u8])
+    requires front { length line.old.items ≤ ORDER_FRONT_LIMIT }
+    requires value { length value.now ≤ VALUE_LIMIT }
     ensures text { line.new.items ≡ line.old.items ++ 32 ∷ quoted value.now }
     ensures short { length line.new.items ≤ ORDER_LIMIT }
 {
     line.push(b' ');
-    quote_into(value.as_bytes(), line);
+    quote_into(value, line);
 }

@@ -1,7 +1,7 @@
 //! What an event did that the journal logs.
-ghost use Rattle.std.specs.Prelude.{◌≡◌, ◌≤◌, [], length, IfOk, List, vec_capacity};
-ghost use Rattle.nutcore.specs.Notes.{data_note, note_read, refusal_in, refusal_note, status_note};
-ghost use Rattle.nutcore.specs.Promises.{note_in_reply, with_note};
+ghost use Rattle.std.specs.Prelude.{◌≡◌, ◌≤◌, [], length, IfOk, List, Some, vec_capacity};
+ghost use Rattle.nutcore.specs.Notes.{data_note, note_read, refusal_in};
+ghost use Rattle.nutcore.specs.Promises.{note_in_reply, with_changes, with_note};
 ghost use Rattle.nutcore.specs.declared.note.Note.{Note};
 ghost use Rattle.nutcore.specs.declared.note.TheConstants.{NOTE_LIMIT};
 
@@ -156,15 +156,36 @@ impl Notes {
         self.noted.clear();
     }
 
-    /// It is noted, if there is one, while there are fewer than may be.
-    pub(crate) fn add(&mut self, note: Option<Note>)
-        ensures { self.new ≡ with_note note self.old }
+    /// It is noted, while there are fewer than may be.
+    pub(crate) fn add(&mut self, note: Note)
+        ensures { self.new ≡ with_note (Some note) self.old }
     {
-        if let Some(note) = note {
-            if self.noted.len() < NOTE_LIMIT {
-                self.noted.push(note).unwrap();
-            }
+        if self.noted.len() < NOTE_LIMIT {
+            self.noted.push(note).unwrap();
         }
+    }
+
+    /// Adds how the data of a UPS stand, where they stood otherwise.
+    pub(crate) fn add_data(&mut self, u: UpsId, was: DataState, is: DataState)
+        ensures { self.new ≡ with_note (data_note u was is) self.old }
+    {
+        if is != was {
+            self.add(Note::Data(u, is));
+        }
+    }
+
+    /// Adds how the UPS differs from an earlier look.
+    pub(crate) fn add_changes(&mut self, u: UpsId, was: &Look, is: &Look)
+        ensures { self.new ≡ with_changes u (Some was.now) (Some is.now) self.old }
+    {
+        if is.refused != was.refused {
+            let count = is.refused.saturating_sub(was.refused);
+            self.add(Note::LinesRefused(u, count, is.fault));
+        }
+        if is.status.is_some() && is.status != was.status {
+            self.add(Note::StatusChanged(u));
+        }
+        self.add_data(u, was.state, is.state);
     }
 
     /// Adds what a line did that was read and answered so: one that changes nothing only where it is refused.
@@ -190,46 +211,17 @@ impl Notes {
             Ok(Some(Command::Fsd(ups))) => (Verb::Fsd, ups, None),
             Ok(Some(Command::SetVar(ups, name, _))) => (Verb::SetVar, ups, Some(name)),
             Ok(Some(Command::InstCmd(ups, name, _))) => (Verb::InstCmd, ups, Some(name)),
-            Ok(Some(Command::Logout)) => return self.add(session.logout()),
+            Ok(Some(Command::Logout)) => return session.note_logout(self),
             _ => return,
         };
-        self.add(Some(Note::Did(Deed {
+        self.add(Note::Did(Deed {
             who: session.who(),
             verb,
             ups: ups.read(),
-            name: match name {
-                Some(name) => name.read(),
-                None => None,
-            },
+            name: name.and_then(|name| name.read()),
             refusal: refusal_in(text),
-        })))
+        }))
     }
-}
-
-/// How many lines were refused meanwhile.
-pub(crate) fn refusal_note(u: UpsId, was: &Look, is: &Look) -> Option<Note>
-    ensures { result ≡ refusal_note u was.now is.now }
-{
-    let count = is.refused.saturating_sub(was.refused);
-    (is.refused != was.refused).then_some(Note::LinesRefused(u, count, is.fault))
-}
-
-/// Whether the status is another one.
-pub(crate) fn status_note(u: UpsId, was: &Look, is: &Look) -> Option<Note>
-    ensures { result ≡ status_note u was.now.status is.now.status }
-{
-    match (&was.status, &is.status) {
-        (_, None) => None,
-        (Some(was), Some(is)) if was.as_bytes() == is.as_bytes() => None,
-        _ => Some(Note::StatusChanged(u)),
-    }
-}
-
-/// How the data stand, where they stood otherwise.
-pub(crate) fn data_note(u: UpsId, was: DataState, is: DataState) -> Option<Note>
-    ensures { result ≡ data_note u was is }
-{
-    (is != was).then_some(Note::Data(u, is))
 }
 
 /// The word of a refusal, if the text is one.
@@ -237,6 +229,5 @@ fn refusal_in(text: &[u8]) -> Option<Name>
     ensures { result ≡ refusal_in text.now }
 {
     let word = text.strip_prefix(b"ERR ")?;
-    let end = line_end(word)?;
-    Name::read(&word[..end]).ok()
+    Name::read(&word[..line_end(word)?]).ok()
 }

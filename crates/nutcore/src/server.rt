@@ -474,7 +474,7 @@ impl Server {
         self.forget();
         let place = self.place_of(c)?;
         let session = self.sessions.remove(place);
-        self.notes.add(session.logout());
+        session.note_logout(&mut self.notes);
         Ok(())
     }
 

@@ -107,12 +107,13 @@ impl Session {
         }
     }
 
-    /// Its logout, where it is logged in.
-    pub(crate) fn logout(&self) -> Option<Note>
-        ensures { result ≡ logout_of self.now }
+    /// Notes its logout, where it is logged in.
+    pub(crate) fn note_logout(&self, notes: &mut Notes)
+        ensures { notes.new ≡ with_note (logout_of self.now) notes.old }
     {
-        let u = self.login?;
-        Some(Note::LoggedOut(u, self.who()))
+        if let Some(u) = self.login {
+            notes.add(Note::LoggedOut(u, self.who()));
+        }
     }
 
     /// How many logins to the UPS it has: one or none.
@@ -248,7 +249,7 @@ impl Session {
         {
             return Ok(());
         }
-        notes.add(self.logout());
+        self.note_logout(notes);
         self.outbox.push(ErrWord::TooLong.line(), renders);
         self.begin_ending();
         Err(Fault::LineTooLong)

@@ -34,8 +34,8 @@ pub(crate) fn set_var<'a, V: View>(
     user(view, asker, Right::Set)?;
     let name = name.read();
     let (ups, name, variable) = live_variable(view, ups, &name)?;
-    let value = value.word.read();
-    let value = settable(variable, &value)?;
+    let mut held = None;
+    let value = settable(variable, value.bytes(&mut held))?;
     let id = order_id(view, asker, ErrWord::SetFailed)?;
     order_line_into(b"SET", name, Some(value), id, line);
     if line.len() > ups.state.free {
@@ -63,7 +63,8 @@ pub(crate) fn inst_cmd<'a, V: View>(
     let (ups, name) = live_command(view, ups, &name)?;
     let value = command_value(value)?;
     let id = order_id(view, asker, ErrWord::InstcmdFailed)?;
-    order_line_into(b"INSTCMD", name, value.as_ref(), id, line);
+    let value = value.as_ref().map(|value| value.as_bytes());
+    order_line_into(b"INSTCMD", name, value, id, line);
     if line.len() > ups.state.free {
         return Err(ErrWord::InstcmdFailed);
     }

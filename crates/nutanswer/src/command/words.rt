@@ -1,6 +1,7 @@
 //! The words of a command that name something or are a value. Each borrows its spelling from the line, and is read where the
 //! command's row needs it: a command is small, whatever its words may be read as.
-ghost use Rattle.std.specs.Prelude.{◌≡◌, ℕ, List, Option};
+ghost use Rattle.std.specs.Prelude.{◌≡◌, ◌≤◌, ℕ, List, Option, IfSome, length};
+ghost use Rattle.std.specs.Option.{option_copied};
 ghost use Rattle.std.specs.Result.{result_ok};
 ghost use Rattle.nuttracking.specs.Id.{read_id};
 ghost use Rattle.nutwords.specs.Reading.{read_text};
@@ -43,6 +44,20 @@ impl<'a, K: TextKind, const MOST: usize> TextWord<'a, K, MOST> {
         ensures { result ≡ self.now }
     {
         self.word.read().ok()
+    }
+
+    /// The text's bytes. They are copied only where the word holds escapes.
+    pub(crate) fn bytes<'t>(&'t self, held: &'t mut Option<Text<K, MOST>>) -> Option<&'t [u8]>
+        ensures value { option_copied result ≡ self.now }
+        ensures short { IfSome self.now (λ text. length text ≤ MOST) }
+    {
+        let Some(bytes) = self.word.as_plain() else {
+            *held = self.read();
+            return Some(held.as_ref()?.as_bytes());
+        };
+        let allowed = bytes.iter().all(|b| K::allows(*b));
+        let fits = bytes.len() <= MOST && (K::MAY_BE_EMPTY || !bytes.is_empty());
+        (fits && allowed).then_some(bytes)
     }
 }
 

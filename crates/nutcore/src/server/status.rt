@@ -10,7 +10,7 @@ ghost use Rattle.nutusers.specs.declared.limits.TheConstants.{UPS_LIMIT};
 
 use super::Server;
 use crate::event::{ClientId, Fault};
-use crate::note::{Look, Notes, data_note, refusal_note, status_note};
+use crate::note::{Look, Notes};
 use crate::standing::Standing;
 use crate::ups::Ups;
 use nutusers::UpsId;
@@ -58,9 +58,7 @@ impl Server {
         ensures cost { self.new.cost ≡ self.old.cost }
     {
         if let (Some(was), Some(is)) = (was, self.look(u)) {
-            self.notes.add(refusal_note(u, &was, &is));
-            self.notes.add(status_note(u, &was, &is));
-            self.notes.add(data_note(u, was.state, is.state));
+            self.notes.add_changes(u, &was, &is);
         }
     }
 
@@ -85,8 +83,6 @@ pub(super) fn note_stale(upses: &Vec<Ups>, max_age: u32, was: u64, is: u64, note
     for place in 0..upses.len() {
         let u = UpsId { place: place as u8 };
         let ups = &upses[place];
-        let before = ups.data_state(max_age, was);
-        let after = ups.data_state(max_age, is);
-        notes.add(data_note(u, before, after));
+        notes.add_data(u, ups.data_state(max_age, was), ups.data_state(max_age, is));
     }
 }

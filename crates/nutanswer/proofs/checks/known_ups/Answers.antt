@@ -8,5 +8,5 @@ pub returns : goal.returns
 returns g c =
     let found = sym (some_of c.find.result c.in_ok-id.id _ c.in_ok-id.ensures.value) ∙ c.find.ensures in
     let told : Some c.in_ok-name.name.now ≡ option_copied c.name.result = sym (ap option_copied (some_of c.name.result c.in_ok-name.name _ c.in_ok-name.ensures.value)) in
-    let same : c.in_ok-name.name.now ≡ c.in_ok-word.word = has_name c.list-list.result.now c.as_bytes.result.now c.in_ok-id.id c.in_ok-name.name.now found (told ∙ c.name.ensures) ∙ c.as_bytes.ensures.value in
+    let same : c.in_ok-name.name.now ≡ c.in_ok-word.word.now = has_name c.list-list.result.now c.in_ok-word.word.now c.in_ok-id.id c.in_ok-name.name.now found (told ∙ c.name.ensures) in
     grind (arith, common_steps, same)

@@ -56,5 +56,5 @@ pub returns-clause-notes : goal.returns-clause-notes
 returns-clause-notes c =
     let v : ServerState = (the_view c.self.inside).state in
     let found : session c.args.c c.forget.new.self.state ≡ Some c.remove-session.result = found_in c.args.c c.in_ok-place.place v c.forget.new.self.state c.remove-session.result (state_is c.self.view_is) c.in_ok-place.ensures.place c.remove-session.ensures.value in
-    let noted : c.logout.result ≡ option_and_then logout_of (session c.args.c c.args.self.now.state) = c.logout.ensures ∙ sym (ap (option_and_then logout_of) (ap (session c.args.c) (sym c.forget.ensures.state) ∙ found)) in
-    c.add.ensures ∙ one_noted [] c.logout.result c.self.inside.notes (ap (λ (r : RunningServer). r.notes) c.self.view_is ∙ c.forget.ensures.notes) ∙ ap (λ (o : Option Note). take NOTE_LIMIT (cons_option o [])) noted
+    let noted : logout_of c.remove-session.result ≡ option_and_then logout_of (session c.args.c c.args.self.now.state) = sym (ap (option_and_then logout_of) (ap (session c.args.c) (sym c.forget.ensures.state) ∙ found)) in
+    c.note_logout.ensures ∙ one_noted [] (logout_of c.remove-session.result) c.self.inside.notes (ap (λ (r : RunningServer). r.notes) c.self.view_is ∙ c.forget.ensures.notes) ∙ ap (λ (o : Option Note). take NOTE_LIMIT (cons_option o [])) noted
