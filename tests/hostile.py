@@ -5,7 +5,7 @@ driver and the clock. Word: the seed, 1 unless given."""
 import random
 import sys
 
-from plain_server import LINE, RING, VALUE, quoted
+from plain_server import LINE, QUEUE, VALUE, quoted
 from replaying import Bench, built, cases
 
 BENCH = Bench("hostile", *built("upsd"))
@@ -99,7 +99,7 @@ class Pieces:
     def between(self, client, moment):
         if self.chance() < 0.6:
             return []
-        count = self.pick([0, 1, 30, 100, 1000, RING])
+        count = self.pick([0, 1, 30, 100, 1000, QUEUE])
         kinds = [b"took %d all" % client, b"took %d all" % client, b"took %d %d" % (client, count), b"driver-took su all"]
         kinds += [b"driver-took su %d" % count, b"tick %d" % (moment + self.pick([0, 1, 5, 16])), b"up su"]
         return [self.pick(kinds)]

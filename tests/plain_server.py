@@ -7,7 +7,7 @@ import re
 
 MAX_AGE = 15
 LINE, VALUE, VARIABLES = 2047, 512, 32_768
-HOLD, OWED, RING, DRIVER_OWED = LINE + 1, 4096, 8192, 2048
+HOLD, OWED, QUEUE, DRIVER_OWED = LINE + 1, 4096, 8192, 2048
 BLANKS = b" \t"
 
 
@@ -101,7 +101,7 @@ class End:
     owed = sent = b""
 
     def offered(self):
-        return self.owed[:RING]
+        return self.owed[:QUEUE]
 
     def take(self, count):
         demand(count <= len(self.offered()), Refused(4))

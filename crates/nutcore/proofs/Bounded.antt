@@ -1,7 +1,7 @@
 -- How much one event makes a server do for its clients.
 use Rattle.std.proofs.Common.{◌≡◌, ℕ, ◌+◌, ◌-◌, ◌≤◌, Bool, true, List, [], Option, Some, None, refl, ◌∙◌, ap, cond, eqb, arith, length, take, drop, length-append, length-take, length-drop}
 use Rattle.std.proofs.lemmas.Bool.{cond_both, cond-true, eq-eqb, leb-true}
-use Rattle.nutlisting.specs.declared.ring.TheConstants.{RING_LIMIT}
+use Rattle.nutlisting.specs.declared.byte_queue.TheConstants.{QUEUE_LIMIT}
 use Rattle.nutlisting.proofs.PublicLaws.{lines_add_up}
 use Rattle.nutcore.specs.declared.TheConstants.{HELD_LIMIT}
 use Rattle.nutcore.specs.declared.cost.Cost.{Cost}
@@ -88,11 +88,11 @@ taken_few c s e =
     (λ may. own_or_other c d (λ z b. length (cond b (take n (owed_of (session d s))) []) ≤ length (offered (session z s))) (took_offered (session d s) n may) (λ differ. omega arith))
     (λ never. omega arith)) e
 
--- a ring's worth of bytes is placed, and each line that is rendered has a byte of it
+-- a queue's worth of bytes is placed, and each line that is rendered has a byte of it
 abbrev FewIn : Cost → Type 0
-FewIn cost = (cost.placed ≤ RING_LIMIT) × (cost.rendered ≤ cost.placed)
+FewIn cost = (cost.placed ≤ QUEUE_LIMIT) × (cost.rendered ≤ cost.placed)
 
-client_few : (before after : List ℕ) (taken : ℕ) → taken ≤ length before → length after ≤ RING_LIMIT → FewIn (cost_between before taken after)
+client_few : (before after : List ℕ) (taken : ℕ) → taken ≤ length before → length after ≤ QUEUE_LIMIT → FewIn (cost_between before taken after)
 client_few before after taken le few =
     let placed : ℕ = length after + taken - length before in
     (omega (arith, le, few), omega (arith, lines_add_up.few (drop (length after - placed) after), length-drop (length after - placed) after))
@@ -100,14 +100,14 @@ client_few before after taken le few =
 cost_few : (old new : ServerState) (e : Event) → FewIn (cost_of old e new)
 cost_few old new e =
     of_event (λ e. FewIn (cost_of old e new)) (λ e silent. rw (silent.costs old new) (omega arith, omega arith))
-    (λ c piece. client_few _ _ _ (taken_few c old (Feed c piece)) (omega (arith, length-take RING_LIMIT (owed_of (session c new)))))
-    (λ c n. client_few _ _ _ (taken_few c old (Took c n)) (omega (arith, length-take RING_LIMIT (owed_of (session c new))))) e
+    (λ c piece. client_few _ _ _ (taken_few c old (Feed c piece)) (omega (arith, length-take QUEUE_LIMIT (owed_of (session c new)))))
+    (λ c n. client_few _ _ _ (taken_few c old (Took c n)) (omega (arith, length-take QUEUE_LIMIT (owed_of (session c new))))) e
 
 pub bounded : EachEventIsBounded
 bounded old new e o step h = record {
   lines = λ c. omega (arith, (of_event_of_client IsMeasured measures c old e (refused_after o)).holds);
   in_all = all_few old e (refused_after o) h;
-  placed = λ c. omega (arith, taken_few c old e, length-take RING_LIMIT (owed_of (session c new)));
+  placed = λ c. omega (arith, taken_few c old e, length-take QUEUE_LIMIT (owed_of (session c new)));
   bytes = (cost_few old new e).0;
   renders = (cost_few old new e).1;
 }

@@ -5,7 +5,7 @@ use Rattle.std.proofs.lemmas.Bool.{cond-true, eq-eqb}
 use Rattle.nutlisting.specs.Counted.{IsCounted, KeepsCount}
 use Rattle.nutlisting.specs.Counts.{lines}
 use Rattle.nutlisting.specs.Lines.{IsWholeLine}
-use Rattle.nutlisting.specs.declared.ring.TheConstants.{RING_LIMIT}
+use Rattle.nutlisting.specs.declared.byte_queue.TheConstants.{QUEUE_LIMIT}
 use Rattle.nutcore.specs.declared.cost.Cost.{Cost}
 use Rattle.nutcore.proofs.Common.{Event, SessionState, ServerState, session}
 use Rattle.nutcore.specs.declared.event.Event.TheVariants.{Feed, Took}
@@ -54,7 +54,7 @@ took_none s c n may = grind arith
 pub took_some : (s : ServerState) (c n : ℕ) → may_take (session c s) n ≡ true → n ≤ length (offered (session c s)) → length (taken_in_event c s (Took c n)) ≡ n
 unfolding taken_in_event
 took_some s c n may le =
-    ap length (cond-true _ _ _ may ∙ cond-true _ _ _ (eq-eqb c c refl)) ∙ omega (arith, le, length-take n (owed_of (session c s)), length-take RING_LIMIT (owed_of (session c s)))
+    ap length (cond-true _ _ _ may ∙ cond-true _ _ _ (eq-eqb c c refl)) ∙ omega (arith, le, length-take n (owed_of (session c s)), length-take QUEUE_LIMIT (owed_of (session c s)))
 
 -- an event that is refused at once
 nothing_costs : (s s' : ServerState) (c : ℕ) (e : Event) → s' ≡ s → length (taken_in_event c s' e) ≡ 0 → no_cost ≡ client_cost c s e s'

@@ -3,7 +3,7 @@ use Rattle.std.proofs.Common.{◌≡◌, ◌⊎◌, ℕ, ◌+◌, ◌*◌, ◌�
 use Rattle.std.proofs.Math.Nat.{add-mul}
 use Rattle.std.proofs.lemmas.List.{nil_from_length}
 use Rattle.std.proofs.lemmas.Bool.{cond_both, cases_Bool, cases_lt, le-leb}
-use Rattle.nutlisting.specs.declared.ring.TheConstants.{RING_LIMIT}
+use Rattle.nutlisting.specs.declared.byte_queue.TheConstants.{QUEUE_LIMIT}
 use Rattle.nutcore.proofs.Common.{never_both, Event, Outcome, SessionState, ServerState, session, after}
 use Rattle.nutcore.specs.declared.event.Event.TheVariants.{Took}
 use Rattle.nutcore.specs.Pump.{pumped}
@@ -33,9 +33,9 @@ server_then k c s = after s (some_taken k c s) (outcome_then k c s)
 abbrev pub done_then : ℕ → ℕ → ServerState → List Execution
 done_then k c s = of_client c (executions_in_event s (some_taken k c s) (outcome_then k c s))
 
--- of a whole ring, it is all that is offered
-pub all_is_ring : (c : ℕ) (s : ServerState) → size RING_LIMIT c s ≡ length (offered (session c s))
-all_is_ring c s = omega (arith, length-take RING_LIMIT (owed c s))
+-- of a whole queue, it is all that is offered
+pub all_is_queue : (c : ℕ) (s : ServerState) → size QUEUE_LIMIT c s ≡ length (offered (session c s))
+all_is_queue c s = omega (arith, length-take QUEUE_LIMIT (owed c s))
 
 -- nothing is left: then it stays so
 pub record HasNothingLeft (c : ℕ) (s : ServerState) : Type 0 where
@@ -77,10 +77,10 @@ module _ (k c : ℕ) where
       }
 
   -- it moves k bytes, or executes something, which counts as much, or leaves nothing owed
-  pub take_does : k ≤ RING_LIMIT → (s t : ServerState) (done : List Execution) → IsTake k c s t done → (length (owed c t) + k ≤ length (owed c s) + length (texts_of done) + length done * k) ⊎ (owed c t ≡ [])
+  pub take_does : k ≤ QUEUE_LIMIT → (s t : ServerState) (done : List Execution) → IsTake k c s t done → (length (owed c t) + k ≤ length (owed c s) + length (texts_of done) + length done * k) ⊎ (owed c t ≡ [])
   take_does few s t (x ∷ done) is = inl (omega (arith, is.moved, add-mul 1 (length done) k))
   take_does few s t [] is = elim (cases_lt (length (offered (session c s))) k) [
-    | inl less ↦ inr (nil_from_length (owed c t) (omega (arith, is.moved, less, few, length-take RING_LIMIT (owed c s))))
+    | inl less ↦ inr (nil_from_length (owed c t) (omega (arith, is.moved, less, few, length-take QUEUE_LIMIT (owed c s))))
     | inr full ↦ inl (omega (arith, is.moved, full))
   ]
 
@@ -91,22 +91,22 @@ module _ (k c : ℕ) where
 
   pub idle_take : (s : ServerState) → HasNothingLeft c s → server_then k c s ≡ s
   idle_take s h =
-      let none : size k c s ≡ 0 = omega (arith, ap (λ (bytes : List ℕ). length (take RING_LIMIT bytes)) h.none) in
+      let none : size k c s ≡ 0 = omega (arith, ap (λ (bytes : List ℕ). length (take QUEUE_LIMIT bytes)) h.none) in
       then_is s ∙ ap (λ (n : ℕ). cond (may_take (session c s) n) (pumped (without_output s c n) c) s) none
       ∙ cond_both (may_take (session c s) 0) (pumped (without_output s c 0) c) s (λ z. z ≡ s) (λ may. ap (λ (z : ServerState). pumped z c) (none_taken s) ∙ pump_idle s c h.ended) (λ never. refl)
 
 -- a take, and those after it
-one_more : (s : ServerState) (c : ℕ) (rest : GetsEverything c (server_then RING_LIMIT c s)) → suc (length rest.events) ≤ enough_takes c s (some_taken RING_LIMIT c s ∷ rest.events) (outcome_then RING_LIMIT c s ∷ rest.outcomes) → GetsEverything c s
+one_more : (s : ServerState) (c : ℕ) (rest : GetsEverything c (server_then QUEUE_LIMIT c s)) → suc (length rest.events) ≤ enough_takes c s (some_taken QUEUE_LIMIT c s ∷ rest.events) (outcome_then QUEUE_LIMIT c s ∷ rest.outcomes) → GetsEverything c s
 one_more s c rest few = record {
-  events = some_taken RING_LIMIT c s ∷ rest.events;
-  outcomes = outcome_then RING_LIMIT c s ∷ rest.outcomes;
+  events = some_taken QUEUE_LIMIT c s ∷ rest.events;
+  outcomes = outcome_then QUEUE_LIMIT c s ∷ rest.outcomes;
   new = rest.new;
-  run = (server_then RING_LIMIT c s, record { allowed = inl refl; leaves = refl }, rest.run);
-  takes = ((ap (λ (n : ℕ). Took c n) (all_is_ring c s), refl), rest.takes);
+  run = (server_then QUEUE_LIMIT c s, record { allowed = inl refl; leaves = refl }, rest.run);
+  takes = ((ap (λ (n : ℕ). Took c n) (all_is_queue c s), refl), rest.takes);
   nothing_owed = rest.nothing_owed;
   nothing_left = rest.nothing_left;
   few = few;
-  lines = omega (arith, (one_take RING_LIMIT c s).fewer, rest.lines, lines_more c (executions_in_event s (some_taken RING_LIMIT c s) (outcome_then RING_LIMIT c s)) (executions (server_then RING_LIMIT c s) rest.events rest.outcomes));
+  lines = omega (arith, (one_take QUEUE_LIMIT c s).fewer, rest.lines, lines_more c (executions_in_event s (some_taken QUEUE_LIMIT c s) (outcome_then QUEUE_LIMIT c s)) (executions (server_then QUEUE_LIMIT c s) rest.events rest.outcomes));
 }
 
 -- less is held, or as much is held and less is owed, after each but the last
@@ -114,15 +114,15 @@ nearer : (h w : ℕ) (c : ℕ) (s : ServerState) → length (held c s) < h → l
 nearer zero w c s holds owes = absurd (omega (arith, holds))
 nearer (suc h) zero c s holds owes = absurd (omega (arith, owes))
 nearer (suc h) (suc w) c s holds owes =
-    let t : ServerState = server_then RING_LIMIT c s in
-    let done : List Execution = done_then RING_LIMIT c s in
-    let is = one_take RING_LIMIT c s in
-    elim (take_does RING_LIMIT c (omega arith) s t done is) [
+    let t : ServerState = server_then QUEUE_LIMIT c s in
+    let done : List Execution = done_then QUEUE_LIMIT c s in
+    let is = one_take QUEUE_LIMIT c s in
+    elim (take_does QUEUE_LIMIT c (omega arith) s t done is) [
       | inl counts ↦ (let rest : GetsEverything c t = elim (cases_lt 0 (length done)) [
         | inl some ↦ nearer h (suc (length (owed c t))) c t (omega (arith, holds, is.fewer, some)) (omega arith)
         | inr none ↦ (let no_text = ap (λ (xs : List Execution). length (texts_of xs)) (nil_from_length done (omega (arith, none))) in nearer (suc h) w c t (omega (arith, holds, is.fewer)) (omega (arith, owes, counts, none, no_text)))
       ] in
-          let now : List Execution = executions_in_event s (some_taken RING_LIMIT c s) (outcome_then RING_LIMIT c s) in
+          let now : List Execution = executions_in_event s (some_taken QUEUE_LIMIT c s) (outcome_then QUEUE_LIMIT c s) in
           let later : List Execution = executions t rest.events rest.outcomes in
           one_more s c rest (omega (arith, rest.few, counts, answers_more c now later, lines_more c now later)))
       | inr none ↦ one_more s c (record { events = []; outcomes = []; new = t; run = refl; takes = tt; nothing_owed = none; nothing_left = is.ended.stopped; few = omega arith; lines = omega arith }) (omega arith)

@@ -4,7 +4,7 @@ use Rattle.std.specs.List.{filter}
 use Rattle.std.specs.Option.{option_map_or}
 use Rattle.std.proofs.Math.Nat.{add-mul}
 use Rattle.std.proofs.lemmas.Bool.{cond_both, cond-false, ne_eqb, eqb-true, eq-eqb, cases_Bool}
-use Rattle.nutlisting.specs.declared.ring.TheConstants.{RING_LIMIT}
+use Rattle.nutlisting.specs.declared.byte_queue.TheConstants.{QUEUE_LIMIT}
 use Rattle.nutcore.proofs.Common.{Event, Outcome, SessionState, ServerState, session, after, Run}
 use Rattle.nutcore.specs.declared.event.Event.TheVariants.{Feed, Took, Close}
 use Rattle.nutcore.specs.Session.{find, new_session}
@@ -18,7 +18,7 @@ use Rattle.nutcore.proofs.Histories.{later, lines_more, answers_more, of_its_pum
 use Rattle.nutcore.proofs.Isolation.{own}
 use Rattle.nutcore.proofs.Least.{IsIdle}
 use Rattle.nutcore.proofs.Progress.{Presence}
-use Rattle.nutcore.proofs.Taking.{HasNothingLeft, outcome_then, IsTake, one_take, take_does, idle_take, some_taken, all_is_ring}
+use Rattle.nutcore.proofs.Taking.{HasNothingLeft, outcome_then, IsTake, one_take, take_does, idle_take, some_taken, all_is_queue}
 use Rattle.nutcore.specs.TakingSome.{IsTakeOf, TakesSomeAmongOthers, WhoTakesSomeGetsEverything}
 
 -- what a client holds and owes stays: its session does, or one is opened for it
@@ -66,7 +66,7 @@ own_or_not c e own other = by_client (client_of e) own other
     by_client None own other = other refl (λ h. cc h)
     by_client (Some k) own other = elim (cases_Bool (eqb k c)) [ inl e ↦ own e (ap Some (eqb-true k c e)) | inr e ↦ other e (λ h. let same : k ≡ c = cc h in let yes_same = eq-eqb k c same in cc) ]
 
-module _ (k : ℕ) (few : k ≤ RING_LIMIT) (c : ℕ) where
+module _ (k : ℕ) (few : k ≤ QUEUE_LIMIT) (c : ℕ) where
   as_take : (s : ServerState) (e : Event) (o : Outcome) (P : Event → Outcome → Type 0) → IsTakeOf k c s e o → P (some_taken k c s) (outcome_then k c s) → P e o
   as_take s e o P (event_is, outcome_is) p = subst (λ (z : Event). P z o) (sym event_is) (subst (P (some_taken k c s)) (sym (outcome_is ∙ ap (outcome_of s) event_is)) p)
 
@@ -120,13 +120,13 @@ pub takes_some : WhoTakesSomeGetsEverything
 takes_some old new es os c k some few r among enough =
     (served_run k few c old new es os r among).served (omega (arith, enough, some, add-mul (lines_done c old es os) 1 k))
 
--- all that is offered is a whole ring, or less
-takes_rings : (c : ℕ) (s : ServerState) (es : List Event) (os : List Outcome) → TakesAmongOthers c s es os → TakesSomeAmongOthers RING_LIMIT c s es os
-takes_rings c s [] os among = tt
-takes_rings c s (e ∷ es) [] among = tt
-takes_rings c s (e ∷ es) (o ∷ os) (own, others) = (λ its. ((own its).0 ∙ ap (λ (n : ℕ). Took c n) (sym (all_is_ring c s)), (own its).1), takes_rings c (after s e o) es os others)
+-- all that is offered is a whole queue, or less
+takes_queues : (c : ℕ) (s : ServerState) (es : List Event) (os : List Outcome) → TakesAmongOthers c s es os → TakesSomeAmongOthers QUEUE_LIMIT c s es os
+takes_queues c s [] os among = tt
+takes_queues c s (e ∷ es) [] among = tt
+takes_queues c s (e ∷ es) (o ∷ os) (own, others) = (λ its. ((own its).0 ∙ ap (λ (n : ℕ). Took c n) (sym (all_is_queue c s)), (own its).1), takes_queues c (after s e o) es os others)
 
 pub among_others : WhoTakesAmongOthersGetsEverything
 among_others old new es os c r among =
-    let h = served_run RING_LIMIT (omega arith) c old new es os r (takes_rings c old es os among) in
+    let h = served_run QUEUE_LIMIT (omega arith) c old new es os r (takes_queues c old es os among) in
     record { lines = h.lines; served = λ enough. h.served (omega (arith, enough)) }

@@ -5,7 +5,7 @@ use Rattle.std.proofs.lemmas.List.Sums.{count_by-le-length, sum_by-le}
 use Rattle.std.proofs.Math.Nat.{mul-le-mul_right}
 use Rattle.std.specs.List.{sum_by}
 use Rattle.nutwords.specs.declared.limits.TheConstants.{LINE_LIMIT}
-use Rattle.nutlisting.specs.declared.ring.TheConstants.{RING_LIMIT}
+use Rattle.nutlisting.specs.declared.byte_queue.TheConstants.{QUEUE_LIMIT}
 use Rattle.nutlisting.specs.declared.listing.clients.TheConstants.{SESSION_LIMIT}
 use Rattle.nutdriver.specs.declared.limits.TheConstants.{VARIABLE_LIMIT, COMMAND_LIMIT, ENUM_LIMIT, RANGE_LIMIT}
 use Rattle.nutdriver.specs.Variable.{VariableState}
@@ -32,7 +32,7 @@ bounded_in_all s sound =
     let of_sessions = λ (size : SessionState → ℕ) (most : ℕ) (each : (x : SessionState) → IsSoundSession x → size x ≤ most). sum_most IsSoundSession size most each SESSION_LIMIT s.sessions sound.few (all_of_each IsSoundSession s.sessions sound.sessions) in
     record {
       held = of_sessions (λ (x : SessionState). length x.held) HELD_LIMIT (λ x h. h.held);
-      offered = of_sessions (λ (x : SessionState). length (offered (Some x))) RING_LIMIT (λ x h. omega (arith, length-take RING_LIMIT x.owed));
+      offered = of_sessions (λ (x : SessionState). length (offered (Some x))) QUEUE_LIMIT (λ x h. omega (arith, length-take QUEUE_LIMIT x.owed));
       owed_to_drivers = of_upses (λ (x : UpsState). length x.owed) DRIVER_OWED_LIMIT (λ x h. h.owed);
       unfinished = of_upses (λ (x : UpsState). length x.unfinished) LINE_LIMIT (λ x h. h.unfinished);
       variables = of_upses variables_of VARIABLE_LIMIT (λ x h. h.tree.variables_few);

@@ -1,6 +1,6 @@
 -- How much one event makes the server do for its clients.
 use Rattle.std.specs.Prelude.{◌≤◌, ◌+◌, ℕ, length}
-use Rattle.nutlisting.specs.declared.ring.TheConstants.{RING_LIMIT}
+use Rattle.nutlisting.specs.declared.byte_queue.TheConstants.{QUEUE_LIMIT}
 use Rattle.nutcore.specs.declared.TheConstants.{HELD_LIMIT}
 use Rattle.nutcore.specs.declared.event.Event.{Event}
 use Rattle.nutcore.specs.declared.event.Outcome.{Outcome}
@@ -24,8 +24,8 @@ pub record IsBounded (old : ServerState) (event : Event) (outcome : Outcome) (ne
   pub in_all : length (executions_in_event old event outcome) ≤ HELD_LIMIT
   pub placed : (c : ℕ)
       → length (offered (session c new)) + length (taken_in_event c old event)
-      ≤ length (offered (session c old)) + RING_LIMIT
-  pub bytes : (cost_of old event new).placed ≤ RING_LIMIT
+      ≤ length (offered (session c old)) + QUEUE_LIMIT
+  pub bytes : (cost_of old event new).placed ≤ QUEUE_LIMIT
   pub renders : (cost_of old event new).rendered ≤ (cost_of old event new).placed
 
 -- Of every event of a sound server, as each server is.

@@ -8,7 +8,7 @@ use Rattle.nutcore.specs.declared.event.Outcome.TheVariants.{Done, Fed, Opened, 
 use Rattle.nutcore.specs.declared.event.Fault.{Fault}
 use Rattle.nutcore.specs.declared.event.Fault.TheVariants.{NoSuchUps, NoSuchClient}
 use Rattle.nutlisting.specs.Owed.{Owes, owed, IsOutbox}
-use Rattle.nutlisting.specs.declared.ring.TheConstants.{RING_LIMIT}
+use Rattle.nutlisting.specs.declared.byte_queue.TheConstants.{QUEUE_LIMIT}
 use Rattle.nutcore.specs.Session.{SessionState}
 use Rattle.nutcore.specs.Ups.{UpsState}
 
@@ -36,7 +36,7 @@ room_of x = if x.ending then HELD_LIMIT else HELD_LIMIT - length x.held
 abbrev pub standing_of : SessionState → Standing
 standing_of x =
     record {
-      offered = length (take RING_LIMIT x.owed);
+      offered = length (take QUEUE_LIMIT x.owed);
       room = room_of x;
       is_finished = is_finished x;
     }
@@ -51,12 +51,12 @@ abbrev pub ReadsUps : {A : Type 0} → (UpsState → A) → Option UpsState → 
 ReadsUps read None answer = answer ≡ Err NoSuchUps
 ReadsUps read (Some x) answer = answer ≡ Ok (read x)
 
--- The outbox owes these bytes, and no others: its ring is those that are offered, and a cursor is
+-- The outbox owes these bytes, and no others: its queue is those that are offered, and a cursor is
 -- there only while something rests.
 pub record IsOutboxOf (bytes : List ℕ) (o : Owes) : Type 0 where
   pub owed_is : owed o ≡ bytes
-  pub ring_is : o.ring ≡ take RING_LIMIT bytes
-  pub resting : IsOutbox o.ring o.cursor
+  pub queue_is : o.queue ≡ take QUEUE_LIMIT bytes
+  pub resting : IsOutbox o.queue o.cursor
 
 -- A driver is connected to the UPS.
 abbrev pub is_connected : UpsState → Bool

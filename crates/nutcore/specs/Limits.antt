@@ -2,7 +2,7 @@
 use Rattle.std.specs.Prelude.{◌≡◌}
 use Rattle.nutcore.specs.declared.TheConstants.{HELD_LIMIT, DRIVER_OWED_LIMIT}
 use Rattle.nutlisting.specs.declared.outbox.TheConstants.{OWED_LIMIT}
-use Rattle.nutlisting.specs.declared.ring.TheConstants.{RING_LIMIT}
+use Rattle.nutlisting.specs.declared.byte_queue.TheConstants.{QUEUE_LIMIT}
 use Rattle.nutlisting.specs.declared.listing.clients.TheConstants.{SESSION_LIMIT}
 use Rattle.nutcore.specs.declared.max_age.TheConstants.{MAX_AGE_LEAST, MAX_AGE_MOST}
 use Rattle.nutcore.specs.declared.max_age.TheConstants.{MAX_AGE_DEFAULT}
@@ -11,7 +11,7 @@ use Rattle.nutcore.specs.declared.note.TheConstants.{NOTE_LIMIT}
 pub record Limits : Type 0 where
   pub held : HELD_LIMIT ≡ 2048
   pub owed : OWED_LIMIT ≡ 4096
-  pub offered : RING_LIMIT ≡ 8192
+  pub offered : QUEUE_LIMIT ≡ 8192
   pub sessions : SESSION_LIMIT ≡ 64
   pub driver_owed : DRIVER_OWED_LIMIT ≡ 2048
   pub notes : NOTE_LIMIT ≡ 513

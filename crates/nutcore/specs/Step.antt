@@ -5,7 +5,7 @@ use Rattle.std.specs.Prelude.{max, map, fold, slice_get, not, ◌⊎◌, IsTrue}
 use Rattle.std.specs.Option.{option_map_or}
 use Rattle.nutusers.specs.declared.ups_list.UpsId.{UpsId}
 use Rattle.nutcore.specs.declared.TheConstants.{HELD_LIMIT}
-use Rattle.nutlisting.specs.declared.ring.TheConstants.{RING_LIMIT}
+use Rattle.nutlisting.specs.declared.byte_queue.TheConstants.{QUEUE_LIMIT}
 use Rattle.nutlisting.specs.declared.listing.clients.TheConstants.{SESSION_LIMIT}
 use Rattle.nutcore.specs.declared.event.Event.{Event}
 use Rattle.nutcore.specs.declared.event.Event.TheVariants.{DriverUp, DriverBytes, DriverTook}
@@ -51,7 +51,7 @@ with_input s c piece = with_session_changed (joined piece) c s
 
 -- What is offered: the first 8,192 bytes of what is owed, or all.
 abbrev pub offered : Option SessionState → List ℕ
-offered x = take RING_LIMIT (owed_of x)
+offered x = take QUEUE_LIMIT (owed_of x)
 
 abbrev pub may_take : Option SessionState → ℕ → Bool
 may_take None n = false

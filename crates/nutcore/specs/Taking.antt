@@ -3,7 +3,7 @@ use Rattle.std.specs.Prelude.{◌≡◌, ◌≤◌, ◌+◌, ◌/◌, ◌==◌, 
 use Rattle.std.specs.Prelude.{Some, length}
 use Rattle.std.specs.List.{filter}
 use Rattle.std.specs.Option.{option_map_or}
-use Rattle.nutlisting.specs.declared.ring.TheConstants.{RING_LIMIT}
+use Rattle.nutlisting.specs.declared.byte_queue.TheConstants.{QUEUE_LIMIT}
 use Rattle.nutcore.specs.declared.event.Event.{Event}
 use Rattle.nutcore.specs.declared.event.Event.TheVariants.{Took}
 use Rattle.nutcore.specs.declared.event.Outcome.{Outcome}
@@ -34,7 +34,7 @@ lines_done c s es os = length (of_client c (executions s es os))
 -- line that is executed, and one more.
 abbrev pub enough_takes : ℕ → ServerState → List Event → List Outcome → ℕ
 enough_takes c s es os =
-    (length (owed c s) + length (answers c s es os)) / RING_LIMIT + lines_done c s es os + 1
+    (length (owed c s) + length (answers c s es os)) / QUEUE_LIMIT + lines_done c s es os + 1
 
 -- There is a run of so many takes, with no other event between, after which the client is owed
 -- nothing, and no line of it is held that may be executed. They are no more than are enough, and

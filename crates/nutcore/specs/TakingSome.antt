@@ -1,6 +1,6 @@
 -- So does a client that takes only some bytes at a time.
 use Rattle.std.specs.Prelude.{◌≡◌, ◌≤◌, ◌+◌, ◌*◌, ℕ, true, List, [], ◌∷◌, Some, length, min}
-use Rattle.nutlisting.specs.declared.ring.TheConstants.{RING_LIMIT}
+use Rattle.nutlisting.specs.declared.byte_queue.TheConstants.{QUEUE_LIMIT}
 use Rattle.nutcore.specs.declared.event.Event.{Event}
 use Rattle.nutcore.specs.declared.event.Event.TheVariants.{Took}
 use Rattle.nutcore.specs.declared.event.Outcome.{Outcome}
@@ -30,7 +30,7 @@ TakesSomeAmongOthers k c s (e ∷ es) (o ∷ os) =
 abbrev pub WhoTakesSomeGetsEverything : Type 0
 WhoTakesSomeGetsEverything =
     (old new : ServerState) (events : List Event) (outcomes : List Outcome) (c k : ℕ) → 1 ≤ k
-    → k ≤ RING_LIMIT → Run old events outcomes new → TakesSomeAmongOthers k c old events outcomes
+    → k ≤ QUEUE_LIMIT → Run old events outcomes new → TakesSomeAmongOthers k c old events outcomes
     → length (owed c old) + length (answers c old events outcomes)
     + (lines_done c old events outcomes + 1) * k ≤ events_of c events * k
     → (owed c new ≡ []) × (pump_stops new c ≡ true)

@@ -4,7 +4,7 @@ use Rattle.std.specs.Prelude.{nat_lt}
 use Rattle.std.specs.List.{sum_by}
 use Rattle.std.specs.Map.{values_of}
 use Rattle.nutwords.specs.declared.limits.TheConstants.{LINE_LIMIT}
-use Rattle.nutlisting.specs.declared.ring.TheConstants.{RING_LIMIT}
+use Rattle.nutlisting.specs.declared.byte_queue.TheConstants.{QUEUE_LIMIT}
 use Rattle.nutlisting.specs.declared.listing.clients.TheConstants.{SESSION_LIMIT}
 use Rattle.nutdriver.specs.declared.limits.TheConstants.{VARIABLE_LIMIT, COMMAND_LIMIT, ENUM_LIMIT}
 use Rattle.nutdriver.specs.declared.limits.TheConstants.{RANGE_LIMIT}
@@ -35,7 +35,7 @@ ranges_of x =
 -- The session is owed more than is offered to it: a listing goes on, which has a version of what it
 -- lists.
 abbrev pub listing_goes_on : SessionState → Bool
-listing_goes_on x = nat_lt RING_LIMIT (length x.owed)
+listing_goes_on x = nat_lt QUEUE_LIMIT (length x.owed)
 
 -- How many versions of trees may be alive: that of each UPS, and one for each listing that goes on.
 abbrev pub versions_alive : ServerState → ℕ
@@ -47,7 +47,7 @@ versions_alive s = length s.upses + count_by listing_goes_on s.sessions
 pub record IsBoundedInAll (s : ServerState) : Type 0 where
   pub held : sum_by (λ (x : SessionState). length x.held) s.sessions ≤ SESSION_LIMIT * HELD_LIMIT
   pub offered : sum_by (λ (x : SessionState). length (offered (Some x))) s.sessions
-      ≤ SESSION_LIMIT * RING_LIMIT
+      ≤ SESSION_LIMIT * QUEUE_LIMIT
   pub owed_to_drivers : sum_by (λ (x : UpsState). length x.owed) s.upses
       ≤ UPS_LIMIT * DRIVER_OWED_LIMIT
   pub unfinished : sum_by (λ (x : UpsState). length x.unfinished) s.upses ≤ UPS_LIMIT * LINE_LIMIT

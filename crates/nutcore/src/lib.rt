@@ -18,7 +18,7 @@ pub use event::{ClientId, Event, Fault, Outcome, Peer};
 pub use max_age::{MAX_AGE_DEFAULT, MAX_AGE_LEAST, MAX_AGE_MOST, MaxAge};
 pub use note::{DataState, Deed, NOTE_LIMIT, Note, Verb, Who};
 pub use nutdriver::DriverFault;
-pub use nutlisting::{OWED_LIMIT, Outbox, RING_LIMIT, SESSION_LIMIT};
+pub use nutlisting::{OWED_LIMIT, Outbox, QUEUE_LIMIT, SESSION_LIMIT};
 pub use nutusers::{Descriptions, UpsId, UpsList, Users};
 pub use nutwords::Bytes;
 use nutwords::LINE_ROOM;

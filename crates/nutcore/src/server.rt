@@ -14,7 +14,7 @@ ghost use Rattle.nutcore.specs.History.{owed};
 ghost use Rattle.nutcore.specs.Headline.{SentAndOwed, TakenUp, Serves};
 ghost use Rattle.nutcore.specs.Calls.{is_connected, fed, done, opened_as, is_finished, room_of, owed_to, IsOutboxOf, Reads, ReadsUps};
 ghost use Rattle.nutlisting.specs.declared.listing.clients.TheConstants.{SESSION_LIMIT};
-ghost use Rattle.nutlisting.specs.declared.ring.TheConstants.{RING_LIMIT};
+ghost use Rattle.nutlisting.specs.declared.byte_queue.TheConstants.{QUEUE_LIMIT};
 ghost use Rattle.nutcore.specs.contracts.server.Server.{the_row};
 
 mod drivers;
@@ -391,7 +391,7 @@ impl Server {
     pub fn offer(&mut self, c: ClientId) -> Result<&[u8], Fault>
         ensures bytes { MatchResult result
             (λ bytes. (is_some (session c self.old.state) ≡ true)
-            × (bytes.now ≡ take RING_LIMIT (owed c self.old.state)))
+            × (bytes.now ≡ take QUEUE_LIMIT (owed c self.old.state)))
             (λ fault. (fault ≡ Fault.NoSuchClient) × (session c self.old.state ≡ None)) }
         ensures* same { sem 𝓛 (Rests the_row self.entry (λ new. new ≡ self.old)) }
     {
@@ -400,8 +400,7 @@ impl Server {
         Ok(session.offer())
     }
 
-    /// What the session owes its client, as it is kept: the bytes that are offered in a ring, and a cursor while something
-    /// rests.
+    /// What the session owes its client, as it is kept: the queue of offered bytes, and a cursor while something rests.
     ///
     /// # Errors
     ///

@@ -9,7 +9,7 @@ ghost use Rattle.std.specs.Borrow.{sem};
 ghost use Rattle.std.specs.Io.BufRead.{Rests};
 ghost use Rattle.nutcore.specs.declared.TheConstants.{HELD_LIMIT};
 ghost use Rattle.nutlisting.specs.declared.outbox.TheConstants.{OWED_LIMIT};
-ghost use Rattle.nutlisting.specs.declared.ring.TheConstants.{RING_LIMIT};
+ghost use Rattle.nutlisting.specs.declared.byte_queue.TheConstants.{QUEUE_LIMIT};
 ghost use Rattle.nutwords.specs.declared.limits.TheConstants.{LINE_LIMIT};
 ghost use Rattle.nutcore.specs.Calls.{IsOutboxOf, standing_of};
 ghost use Rattle.nutlisting.specs.Counted.{IsCounted, KeepsCount};
@@ -26,7 +26,7 @@ use crate::note::{Note, Notes, Who};
 use crate::scratch::Scratch;
 use crate::standing::Standing;
 use nutanswer::{Asker, Change, ErrWord, Reply};
-use nutlisting::{Clients, Outbox, Ring};
+use nutlisting::{ByteQueue, Clients, Outbox};
 use nutusers::{Password, UpsId, UserName};
 use nutwords::Address;
 use std::alloc::{AllocError, Global};
@@ -37,7 +37,7 @@ use std::marker::Model;
 pub(crate) struct Session {
     pub(crate) id: u64,
     address: Address,
-    held: Ring<HELD_LIMIT>,
+    held: ByteQueue<HELD_LIMIT>,
     /// How many of the held bytes are lines that were executed. They go when the next piece comes.
     executed: usize,
     outbox: Outbox,
@@ -64,7 +64,7 @@ impl Session {
     pub(crate) fn new(alloc: Global, id: u64, address: Address) -> Result<Self, AllocError>
         ensures { IfOk result (λ x. x ≡ new_session id address) }
     {
-        let held = Ring::new(alloc)?;
+        let held = ByteQueue::new(alloc)?;
         let outbox = Outbox::new(alloc)?;
         Ok(Session {
             id,
@@ -140,14 +140,15 @@ impl Session {
     pub(crate) fn standing(&self) -> Standing
         ensures { result ≡ standing_of self.now }
     {
+        let offered = self.outbox.offered();
         Standing {
-            offered: self.outbox.offered(),
+            offered,
             room: if self.ending {
                 HELD_LIMIT
             } else {
                 HELD_LIMIT - self.waiting().len()
             },
-            is_finished: self.ending && self.outbox.is_empty(),
+            is_finished: self.ending && offered == 0,
         }
     }
 
@@ -283,14 +284,14 @@ impl Session {
     /// What is offered to the client now: the first 8,192 bytes of what it is owed, or all. Nothing
     /// changes.
     pub(crate) fn offer(&mut self) -> &[u8]
-        ensures value { result.now ≡ take RING_LIMIT self.old.owed }
+        ensures value { result.now ≡ take QUEUE_LIMIT self.old.owed }
         ensures* same { sem 𝓛 (Rests the_row self.entry (λ new. new ≡ self.old)) }
     {
         self.outbox.offer()
     }
 
-    /// What it owes, as a ring and a cursor.
-    #[tactic(auto, using(nutlisting::proofs::PublicLaws::what_is_offered_is_the_ring))]
+    /// What it owes, as a queue and a cursor.
+    #[tactic(auto, using(nutlisting::proofs::PublicLaws::what_is_offered_is_the_queue))]
     pub(crate) fn outbox(&self) -> &Outbox
         ensures { IsOutboxOf self.now.owed result.now }
     {
@@ -300,19 +301,19 @@ impl Session {
 
     /// How many bytes are offered.
     pub(crate) fn offered(&self) -> usize
-        ensures { result ≡ length (take RING_LIMIT self.now.owed) }
+        ensures { result ≡ length (take QUEUE_LIMIT self.now.owed) }
     {
         self.outbox.offered()
     }
 
     /// The client took n bytes of what it is offered.
     pub(crate) fn take(&mut self, n: usize, scratch: &mut Scratch)
-        requires few { n ≤ length (take RING_LIMIT self.old.owed) }
+        requires few { n ≤ length (take QUEUE_LIMIT self.old.owed) }
         requires none { scratch.old.renders ≡ 0 }
         ensures short { length self.new.held ≤ HELD_LIMIT }
         ensures id { self.new.id ≡ self.old.id }
         ensures takes { self.new ≡ taken_from n self.old }
-        ensures counted { IsCounted (length (take RING_LIMIT self.old.owed) - n)
+        ensures counted { IsCounted (length (take QUEUE_LIMIT self.old.owed) - n)
             self.new.owed scratch.new.renders }
     {
         // What the outbox says of itself.

@@ -39,4 +39,4 @@ drop_ends (suc n) unfinished [] h = refl
 drop_ends (suc n) unfinished (b ∷ text) h = drop_ends n (not (is_lf b)) text h
 
 pub begun_lines_are_ended : BegunLinesAreEnded
-begun_lines_are_ended p = drop_ends p.offset false (concat (drop p.place (lines_of p.listing))) (joined_end (drop p.place (lines_of p.listing)) (all_left p.place (lines_of p.listing) (lines_end p.listing)))
+begun_lines_are_ended p = drop_ends p.offset false (concat (drop p.done (lines_of p.listing))) (joined_end (drop p.done (lines_of p.listing)) (all_left p.done (lines_of p.listing) (lines_end p.listing)))

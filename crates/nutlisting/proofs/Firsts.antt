@@ -1,4 +1,4 @@
--- The first of the items after a place.
+-- The first of the items that are left.
 use Rattle.std.proofs.Common.{◌≡◌, ℕ, Bool, List, [], ◌∷◌, Option, Some, None, refl, sym, ap, ◌∙◌, arith}
 use Rattle.std.specs.Prelude.{map, filter, MatchOption}
 use Rattle.std.specs.Map.{keys_of}
@@ -9,10 +9,10 @@ use Rattle.nutmap.specs.Entries.{entries_after, entry_after}
 use Rattle.nutdriver.specs.Tree.{TreeState, byte_order}
 use Rattle.nutlisting.specs.declared.listing.Content.{Content}
 use Rattle.nutlisting.specs.declared.listing.Content.TheVariants.{Commands}
-use Rattle.nutlisting.specs.declared.listing.place.Place.TheVariants.{After}
+use Rattle.nutlisting.specs.declared.listing.stage.Stage.TheVariants.{Names}
 use Rattle.nutlisting.specs.Items.{command_item}
 use Rattle.nutlisting.specs.Lines.{IsWholeLine}
-use Rattle.nutlisting.specs.Places.{IsFirst, items_past, names_after}
+use Rattle.nutlisting.specs.Stages.{IsFirst, items_past, names_after}
 
 pub first_of : {E : Type 0} (item : E → List (List ℕ)) (all others : List E) (e : E) (line : List ℕ) → all ≡ e ∷ others → line ≡ line_of (item e) → IsWholeLine line → IsFirst (map item all) line (map item others)
 first_of item all others e line s l w = record {
@@ -39,15 +39,15 @@ names_of_entries es (Some name) = keys_filtered (λ other. is_lt (byte_order nam
 
 -- the commands after a name, as the listing has them
 module _ (content : Content) (ups : List ℕ) (tree : TreeState) (last : Option (List ℕ)) (es : List (List ℕ × Unit {0})) (is : content ≡ Commands ups tree) (keys : keys_of es ≡ tree.commands) where
-  commands_past : (name : Option (List ℕ)) → items_past content (After name) ≡ map (command_item ups) (keys_of (entries_after byte_order es name))
-  commands_past name = ap (λ (x : Content). items_past x (After name)) is ∙ ap (λ names. map (command_item ups) (names_after names name)) (sym keys) ∙ ap (map (command_item ups)) (sym (names_of_entries es name))
+  commands_past : (name : Option (List ℕ)) → items_past content (Names, name) ≡ map (command_item ups) (keys_of (entries_after byte_order es name))
+  commands_past name = ap (λ (x : Content). items_past x (Names, name)) is ∙ ap (λ names. map (command_item ups) (names_after names name)) (sym keys) ∙ ap (map (command_item ups)) (sym (names_of_entries es name))
 
-  pub no_command : entries_after byte_order es last ≡ [] → items_past content (After last) ≡ []
+  pub no_command : entries_after byte_order es last ≡ [] → items_past content (Names, last) ≡ []
   no_command none = commands_past last ∙ ap (λ (rest : List (List ℕ × Unit {0})). map (command_item ups) (keys_of rest)) none
 
   pub command_first : (line : List ℕ) (e : List ℕ × Unit {0}) → Walks byte_order es last → entry_after byte_order es last ≡ Some e
       → line ≡ line_of (command_item ups e.0) → IsWholeLine line
-      → IsFirst (items_past content (After last)) line (items_past content (After (Some e.0)))
+      → IsFirst (items_past content (Names, last)) line (items_past content (Names, Some e.0))
   command_first line e walks entry text whole =
       rw (commands_past last, commands_past (Some e.0))
       (first_of (command_item ups) _ _ e.0 line (ap keys_of (walks_on byte_order es last e walks entry)) text whole)

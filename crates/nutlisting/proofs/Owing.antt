@@ -5,19 +5,19 @@ use Rattle.nutlisting.specs.Rest.{Position, rest}
 use Rattle.nutlisting.specs.Filled.{what_fits, what_stays}
 use Rattle.nutlisting.specs.Owed.{rest_of, IsOutbox}
 use Rattle.nutlisting.specs.declared.outbox.TheConstants.{OWED_LIMIT}
-use Rattle.nutlisting.specs.declared.ring.TheConstants.{RING_LIMIT}
+use Rattle.nutlisting.specs.declared.byte_queue.TheConstants.{QUEUE_LIMIT}
 
--- the ring alone
-pub offered_is : (ring : List ℕ) (cursor : Option Position) → IsOutbox ring cursor → take RING_LIMIT (ring ++ rest_of cursor) ≡ ring
-offered_is ring None o = ap (take RING_LIMIT) (append-nil ring) ∙ take_all RING_LIMIT ring o.short
-offered_is ring (Some cursor) o = take_at ring (rest cursor) RING_LIMIT o.while_resting.full
+-- the queue alone
+pub offered_is : (queue : List ℕ) (cursor : Option Position) → IsOutbox queue cursor → take QUEUE_LIMIT (queue ++ rest_of cursor) ≡ queue
+offered_is queue None o = ap (take QUEUE_LIMIT) (append-nil queue) ∙ take_all QUEUE_LIMIT queue o.short
+offered_is queue (Some cursor) o = take_at queue (rest cursor) QUEUE_LIMIT o.while_resting.full
 
 -- where a line may be executed, what a new cursor has fits in part, and stays in part
-pub joined_owed : (ring : List ℕ) (cursor : Option Position) (ring' : List ℕ) (cursor' : Option Position) (begun : Position) (text : List ℕ) → IsOutbox ring cursor
-    → length (ring ++ rest_of cursor) ≤ OWED_LIMIT → ring' ≡ ring ++ what_fits ring (rest begun) → rest_of cursor' ≡ what_stays ring (rest begun)
-    → rest begun ≡ text → ring' ++ rest_of cursor' ≡ (ring ++ rest_of cursor) ++ text
-joined_owed ring None ring' cursor' begun text o few r s t =
-    ap (λ (a : List ℕ). a ++ rest_of cursor') r ∙ ap (λ (b : List ℕ). (ring ++ what_fits ring (rest begun)) ++ b) s
-    ∙ append_assoc ring (what_fits ring (rest begun)) (what_stays ring (rest begun)) ∙ ap (λ (a : List ℕ). ring ++ a) (take-append-drop (RING_LIMIT - length ring) (rest begun) ∙ t)
-    ∙ ap (λ (a : List ℕ). a ++ text) (sym (append-nil ring))
-joined_owed ring (Some c) ring' cursor' begun text o few r s t = absurd (omega (arith, few, o.while_resting.full, length-append ring (rest c)))
+pub joined_owed : (queue : List ℕ) (cursor : Option Position) (queue' : List ℕ) (cursor' : Option Position) (begun : Position) (text : List ℕ) → IsOutbox queue cursor
+    → length (queue ++ rest_of cursor) ≤ OWED_LIMIT → queue' ≡ queue ++ what_fits queue (rest begun) → rest_of cursor' ≡ what_stays queue (rest begun)
+    → rest begun ≡ text → queue' ++ rest_of cursor' ≡ (queue ++ rest_of cursor) ++ text
+joined_owed queue None queue' cursor' begun text o few r s t =
+    ap (λ (a : List ℕ). a ++ rest_of cursor') r ∙ ap (λ (b : List ℕ). (queue ++ what_fits queue (rest begun)) ++ b) s
+    ∙ append_assoc queue (what_fits queue (rest begun)) (what_stays queue (rest begun)) ∙ ap (λ (a : List ℕ). queue ++ a) (take-append-drop (QUEUE_LIMIT - length queue) (rest begun) ∙ t)
+    ∙ ap (λ (a : List ℕ). a ++ text) (sym (append-nil queue))
+joined_owed queue (Some c) queue' cursor' begun text o few r s t = absurd (omega (arith, few, o.while_resting.full, length-append queue (rest c)))

@@ -2,7 +2,7 @@
 use Rattle.nutlisting.specs.Counted.{WhatIsPlacedIsCounted}
 use Rattle.nutlisting.proofs.Counted as counting
 use Rattle.nutlisting.specs.Lawful.{TextsAreLawful, LawfulWordsAreALine, SoundTreesHaveSoundEntries}
-use Rattle.nutlisting.specs.Laws.{LinesAreTheText, BegunLinesAreEnded, LinesAddUp, WhatIsOfferedIsTheRing}
+use Rattle.nutlisting.specs.Laws.{LinesAreTheText, BegunLinesAreEnded, LinesAddUp, WhatIsOfferedIsTheQueue}
 use Rattle.nutlisting.proofs.Writing as writing
 use Rattle.nutlisting.proofs.Ended as ended
 use Rattle.nutlisting.proofs.AddingUp as adding
@@ -25,9 +25,9 @@ begun_lines_are_ended = ended.begun_lines_are_ended
 pub lines_add_up : LinesAddUp
 lines_add_up = adding.lines_add_up
 
--- what_is_offered_is_the_ring
-pub what_is_offered_is_the_ring : WhatIsOfferedIsTheRing
-what_is_offered_is_the_ring = owing.offered_is
+-- what_is_offered_is_the_queue
+pub what_is_offered_is_the_queue : WhatIsOfferedIsTheQueue
+what_is_offered_is_the_queue = owing.offered_is
 
 -- ids_are_lawful
 pub ids_are_lawful : IdsAreLawful

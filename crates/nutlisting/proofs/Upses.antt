@@ -10,7 +10,7 @@ use Rattle.nutusers.specs.UpsList.{Ups}
 use Rattle.nutlisting.specs.Shown.{text_or_unavailable}
 use Rattle.nutlisting.specs.Items.{ups_item}
 use Rattle.nutlisting.specs.Lines.{IsWholeLine}
-use Rattle.nutlisting.specs.Places.{IsFirst}
+use Rattle.nutlisting.specs.Stages.{IsFirst}
 use Rattle.nutlisting.proofs.Firsts.{first_of}
 
 named_by : (held : Option Ups) (ups : Ups) (name : List ℕ) (desc : Option (List ℕ)) → held ≡ Some ups

@@ -5,8 +5,8 @@ use Rattle.nutdriver.specs.Tree.{byte_order}
 use Rattle.nutdriver.specs.Variable.{VariableState}
 use Rattle.nutlisting.specs.declared.listing.Content.{Content}
 use Rattle.nutlisting.specs.declared.listing.Content.TheVariants.{Variables, Rw}
-use Rattle.nutlisting.specs.declared.listing.place.Place.{Place}
-use Rattle.nutlisting.specs.declared.listing.place.Place.TheVariants.{After}
+use Rattle.nutlisting.specs.declared.listing.stage.Stage.TheVariants.{Names}
+use Rattle.nutlisting.specs.Stages.{Reached}
 
 module _ {E : Type 0} where
   -- The first of the entries are ahead, any number of them.
@@ -36,12 +36,12 @@ pub record IsTaken (variables : List (List ℕ × VariableState)) (last : Option
       ≡ e ∷ entries_after byte_order variables (Some e.0)
   pub first : AreFirst (entries_after byte_order variables (Some e.0)) ahead
 
--- The variables after a place, of a listing that goes by their names.
-abbrev pub variables_past : Place → Content → List (List ℕ × VariableState)
-variables_past (After last) (Variables ups fsd tree) = entries_after byte_order tree.variables last
-variables_past (After last) (Rw ups fsd tree) = entries_after byte_order tree.variables last
-variables_past place content = []
+-- The variables after those that are done, of a listing that goes by their names.
+abbrev pub variables_past : Reached → Content → List (List ℕ × VariableState)
+variables_past (Names, last) (Variables ups fsd tree) = entries_after byte_order tree.variables last
+variables_past (Names, last) (Rw ups fsd tree) = entries_after byte_order tree.variables last
+variables_past reached content = []
 
 -- The next variables are ahead.
-abbrev pub IsAhead : Content → Place → List (Option (List ℕ × VariableState)) → Type 0
-IsAhead content place ahead = AreFirst (variables_past place content) ahead
+abbrev pub IsAhead : Content → Reached → List (Option (List ℕ × VariableState)) → Type 0
+IsAhead content reached ahead = AreFirst (variables_past reached content) ahead

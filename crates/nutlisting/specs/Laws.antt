@@ -6,7 +6,7 @@ use Rattle.nutlisting.specs.Items.{ListingState, text_of, lines_of}
 use Rattle.nutlisting.specs.Lines.{IsWholeLine}
 use Rattle.nutlisting.specs.Rest.{Position, rest}
 use Rattle.nutlisting.specs.Owed.{rest_of, IsOutbox}
-use Rattle.nutlisting.specs.declared.ring.TheConstants.{RING_LIMIT}
+use Rattle.nutlisting.specs.declared.byte_queue.TheConstants.{QUEUE_LIMIT}
 
 -- The lines of a listing, joined, are its text.
 abbrev pub LinesAreTheText : Type 0
@@ -24,8 +24,8 @@ pub record LinesAddUp : Type 0 where
   pub one : (text : List ℕ) → IsWholeLine text → (lines text ≡ 1) × (is_open text ≡ false)
   pub few : (text : List ℕ) → lines text ≤ length text
 
--- What is offered of what is owed, its first bytes, is the ring.
-abbrev pub WhatIsOfferedIsTheRing : Type 0
-WhatIsOfferedIsTheRing =
-    (ring : List ℕ) (cursor : Option Position) → IsOutbox ring cursor
-    → take RING_LIMIT (ring ++ rest_of cursor) ≡ ring
+-- What is offered of what is owed, its first bytes, is the queue.
+abbrev pub WhatIsOfferedIsTheQueue : Type 0
+WhatIsOfferedIsTheQueue =
+    (queue : List ℕ) (cursor : Option Position) → IsOutbox queue cursor
+    → take QUEUE_LIMIT (queue ++ rest_of cursor) ≡ queue

@@ -8,7 +8,7 @@ pub mod Spaced
 pub mod Counts
 pub mod Filled
 pub mod Rest
-pub mod Places
+pub mod Stages
 pub mod Ahead
 pub mod Owed
 pub mod Counted

@@ -3,29 +3,29 @@ use Rattle.std.specs.Prelude.{◌≡◌, ℕ, ◌<◌, ◌≤◌, ◌||◌, List
 use Rattle.std.specs.Prelude.{MatchOption, IsTrue, is_some, codes}
 use Rattle.std.specs.Str.{bytes_eq}
 use Rattle.nutlisting.specs.Rest.{Position, rest}
-use Rattle.nutlisting.specs.declared.ring.TheConstants.{RING_LIMIT}
+use Rattle.nutlisting.specs.declared.byte_queue.TheConstants.{QUEUE_LIMIT}
 
 pub record Owes : Type 0 where
-  pub ring : List ℕ
+  pub queue : List ℕ
   pub cursor : Option Position
 
 abbrev pub rest_of : Option Position → List ℕ
 rest_of None = []
 rest_of (Some cursor) = rest cursor
 
--- The bytes of the ring, and the rest of the cursor.
+-- The bytes of the queue, and the rest of the cursor.
 abbrev pub owed : Owes → List ℕ
-owed o = o.ring ++ rest_of o.cursor
+owed o = o.queue ++ rest_of o.cursor
 
--- The ring is full, and something rests.
-pub record IsFull (ring : List ℕ) (rest : List ℕ) : Type 0 where
-  pub full : length ring ≡ RING_LIMIT
+-- The queue is full, and something rests.
+pub record IsFull (queue : List ℕ) (rest : List ℕ) : Type 0 where
+  pub full : length queue ≡ QUEUE_LIMIT
   pub going : 0 < length rest
 
--- A cursor is there only while something rests, and then the ring is full.
-pub record IsOutbox (ring : List ℕ) (cursor : Option Position) : Type 0 where
-  pub short : length ring ≤ RING_LIMIT
-  pub while_resting : MatchOption cursor (Unit {0}) (λ c. IsFull ring (rest c))
+-- A cursor is there only while something rests, and then the queue is full.
+pub record IsOutbox (queue : List ℕ) (cursor : Option Position) : Type 0 where
+  pub short : length queue ≤ QUEUE_LIMIT
+  pub while_resting : MatchOption cursor (Unit {0}) (λ c. IsFull queue (rest c))
 
 -- The place for the clients of a listing is there, or a cursor over clients has it.
 abbrev pub HasPlaceForClients : Option Position → Option (List (List ℕ)) → Type 0

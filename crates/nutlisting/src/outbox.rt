@@ -10,11 +10,11 @@ ghost use Rattle.nutlisting.specs.Owed.{owed, rest_of, IsOutbox, HasPlaceForClie
 ghost use Rattle.nutlisting.specs.Rest.{rest};
 ghost use Rattle.nutlisting.specs.declared.listing.clients.TheConstants.{SESSION_LIMIT};
 ghost use Rattle.nutlisting.specs.declared.outbox.TheConstants.{OWED_LIMIT};
-ghost use Rattle.nutlisting.specs.declared.ring.TheConstants.{RING_LIMIT};
+ghost use Rattle.nutlisting.specs.declared.byte_queue.TheConstants.{QUEUE_LIMIT};
 
+use crate::byte_queue::{ByteQueue, QUEUE_LIMIT};
 use crate::cursor::Cursor;
 use crate::listing::{Clients, Listing};
-use crate::ring::{RING_LIMIT, Ring};
 use nutwords::{Line, UpsName};
 use std::alloc::{AllocError, Global};
 use std::marker::Model;
@@ -23,13 +23,13 @@ use std::mem;
 /// The next line of a client is executed while at most so many bytes are owed to it.
 pub const OWED_LIMIT: usize = 4096;
 
-/// What a session owes its client: a ring of bytes, and one cursor for what doesn't fit in it yet.
+/// What a session owes its client: a queue of bytes, and one cursor for what doesn't fit in it yet.
 ///
-/// Only `new` asks for memory. Contracts see the ring and the cursor; what is owed is the bytes of the ring, followed
-/// by the rest of the cursor, and the ring is full while that rest isn't empty.
+/// Only `new` asks for memory. Contracts see the queue and the cursor; what is owed is the bytes of the queue, followed
+/// by the rest of the cursor, and the queue is full while that rest isn't empty.
 #[derive(Drop)]
 pub struct Outbox {
-    ring: Ring<RING_LIMIT>,
+    queue: ByteQueue<QUEUE_LIMIT>,
     cursor: Option<Cursor>,
     /// The place for the clients of a listing, except while the cursor has it.
     clients: Option<Clients>,
@@ -40,9 +40,9 @@ impl Model for Outbox {
 
     ghost Value = { Owes };
 
-    ghost view = { λ o. record { ring = o.ring; cursor = o.cursor } };
+    ghost view = { λ o. record { queue = o.queue; cursor = o.cursor } };
 
-    ghost invariant = { λ o. IsOutbox o.ring o.cursor × HasPlaceForClients o.cursor o.clients };
+    ghost invariant = { λ o. IsOutbox o.queue o.cursor × HasPlaceForClients o.cursor o.clients };
 }
 
 impl Outbox {
@@ -54,12 +54,12 @@ impl Outbox {
     ///
     /// `AllocError` where memory is refused.
     pub fn new(alloc: Global) -> Result<Self, AllocError>
-        ensures { IfOk result (λ outbox. (outbox.ring ≡ []) × (outbox.cursor ≡ None)) }
+        ensures { IfOk result (λ outbox. (outbox.queue ≡ []) × (outbox.cursor ≡ None)) }
     {
-        let ring = Ring::new(alloc)?;
+        let queue = ByteQueue::new(alloc)?;
         let clients = Clients::new(alloc)?;
         Ok(Outbox {
-            ring,
+            queue,
             cursor: None,
             clients: Some(clients),
         })
@@ -68,38 +68,28 @@ impl Outbox {
     /// How many bytes are offered.
     #[tactic(auto, using(crate::proofs::Owing::offered_is))]
     pub fn offered(&self) -> usize
-        ensures offered { result ≡ length (take RING_LIMIT (owed self.now)) }
-        ensures ring { result ≡ length self.now.ring }
-        ensures outbox { IsOutbox self.now.ring self.now.cursor }
+        ensures offered { result ≡ length (take QUEUE_LIMIT (owed self.now)) }
+        ensures queue { result ≡ length self.now.queue }
+        ensures outbox { IsOutbox self.now.queue self.now.cursor }
     {
-        let _ = &self.cursor;
-        self.ring.len()
+        self.queue.len()
     }
 
     /// What is offered to the client now: the first 8,192 bytes that are owed, or all. Nothing changes.
     pub fn offer(&mut self) -> &[u8]
-        ensures value { result.now ≡ take RING_LIMIT (owed self.old) }
-        ensures ring { result.now ≡ self.old.ring }
+        ensures value { result.now ≡ take QUEUE_LIMIT (owed self.old) }
+        ensures queue { result.now ≡ self.old.queue }
         ensures* same { sem 𝓛 (Rests the_row self.entry (λ new. new ≡ self.old)) }
     {
         let outbox = &*self;
-        outbox.ring.bytes()
-    }
-
-    /// Whether nothing is owed.
-    pub fn is_empty(&self) -> bool
-        ensures { result ≡ (length (owed self.now) == 0) }
-    {
-        let _ = &self.cursor;
-        self.ring.len() == 0
+        outbox.queue.bytes()
     }
 
     /// Whether the next line may be executed: at most 4,096 bytes are owed.
     pub fn is_ready(&self) -> bool
         ensures { result ≡ nat_le (length (owed self.now)) OWED_LIMIT }
     {
-        let _ = &self.cursor;
-        self.ring.len() <= OWED_LIMIT
+        self.queue.len() <= OWED_LIMIT
     }
 
     /// Joins an answer of one line, and counts it. It takes no memory.
@@ -107,13 +97,12 @@ impl Outbox {
         requires ready { length (owed self.old) ≤ OWED_LIMIT }
         requires short { length line.now ≤ OWED_LIMIT }
         ensures owed { owed self.new ≡ owed self.old ++ line.now }
-        ensures ring { self.new.ring ≡ self.old.ring ++ line.now }
+        ensures queue { self.new.queue ≡ self.old.queue ++ line.now }
         ensures cursor { self.new.cursor ≡ None }
-        ensures outbox { IsOutbox self.old.ring self.old.cursor }
+        ensures outbox { IsOutbox self.old.queue self.old.cursor }
         ensures counts { renders.new ≡ count_more renders.old 1 }
     {
-        let _ = &self.cursor;
-        self.ring.push(line);
+        self.queue.push(line);
         *renders = renders.saturating_add(1);
     }
 
@@ -121,16 +110,16 @@ impl Outbox {
     pub fn accept(&mut self, listing: Listing, line: &mut Line, renders: &mut u64)
         requires ready { length (owed self.old) ≤ OWED_LIMIT }
         ensures owed { owed self.new ≡ owed self.old ++ text_of listing }
-        ensures ring { self.new.ring ≡ self.old.ring ++ what_fits self.old.ring (text_of listing) }
-        ensures rest { rest_of self.new.cursor ≡ what_stays self.old.ring (text_of listing) }
-        ensures outbox { IsOutbox self.old.ring self.old.cursor }
+        ensures queue { self.new.queue
+            ≡ self.old.queue ++ what_fits self.old.queue (text_of listing) }
+        ensures rest { rest_of self.new.cursor ≡ what_stays self.old.queue (text_of listing) }
+        ensures outbox { IsOutbox self.old.queue self.old.cursor }
         ensures counts { renders.new ≡ count_more renders.old
-            (lines (what_fits self.old.ring (text_of listing))) }
+            (lines (what_fits self.old.queue (text_of listing))) }
     {
-        let _ = &self.cursor;
         self.cursor = Some(Cursor::start(listing));
-        let (ring, clients) = (&mut self.ring, &mut self.clients);
-        drain(&mut self.cursor, ring, clients, line, renders);
+        let (queue, clients) = (&mut self.queue, &mut self.clients);
+        drain(&mut self.cursor, queue, clients, line, renders);
     }
 
     /// Joins the listing of these clients of a UPS. In their place it leaves room for as many. It takes no memory.
@@ -144,37 +133,36 @@ impl Outbox {
         requires ready { length (owed self.old) ≤ OWED_LIMIT }
         ensures owed { owed self.new
             ≡ owed self.old ++ text_of (client_listing ups.now clients.old) }
-        ensures ring { self.new.ring
-            ≡ self.old.ring ++ what_fits self.old.ring
+        ensures queue { self.new.queue
+            ≡ self.old.queue ++ what_fits self.old.queue
             (text_of (client_listing ups.now clients.old)) }
         ensures rest { rest_of self.new.cursor
-            ≡ what_stays self.old.ring (text_of (client_listing ups.now clients.old)) }
-        ensures outbox { IsOutbox self.old.ring self.old.cursor }
+            ≡ what_stays self.old.queue (text_of (client_listing ups.now clients.old)) }
+        ensures outbox { IsOutbox self.old.queue self.old.cursor }
         ensures counts { renders.new ≡ count_more renders.old
-            (lines (what_fits self.old.ring (text_of (client_listing ups.now clients.old)))) }
+            (lines (what_fits self.old.queue (text_of (client_listing ups.now clients.old)))) }
     {
-        let _ = &self.cursor;
         let place = self.clients.take().unwrap();
         self.cursor = Some(clients_cursor(ups, clients, place));
-        let (ring, clients) = (&mut self.ring, &mut self.clients);
-        drain(&mut self.cursor, ring, clients, line, renders);
+        let (queue, clients) = (&mut self.queue, &mut self.clients);
+        drain(&mut self.cursor, queue, clients, line, renders);
     }
 
-    /// The client took so many bytes, and the ring is filled again. It takes no memory.
+    /// The client took so many bytes, and the queue is filled again. It takes no memory.
     pub fn take(&mut self, n: usize, line: &mut Line, renders: &mut u64)
-        requires { n ≤ length self.old.ring }
+        requires { n ≤ length self.old.queue }
         ensures owed { owed self.new ≡ drop n (owed self.old) }
-        ensures ring { self.new.ring
-            ≡ drop n self.old.ring ++ what_fits (drop n self.old.ring) (rest_of self.old.cursor) }
+        ensures queue { self.new.queue
+            ≡ drop n self.old.queue ++ what_fits (drop n self.old.queue) (rest_of self.old.cursor) }
         ensures rest { rest_of self.new.cursor
-            ≡ what_stays (drop n self.old.ring) (rest_of self.old.cursor) }
-        ensures outbox { IsOutbox self.old.ring self.old.cursor }
+            ≡ what_stays (drop n self.old.queue) (rest_of self.old.cursor) }
+        ensures outbox { IsOutbox self.old.queue self.old.cursor }
         ensures counts { renders.new ≡ count_more renders.old
-            (lines (what_fits (drop n self.old.ring) (rest_of self.old.cursor))) }
+            (lines (what_fits (drop n self.old.queue) (rest_of self.old.cursor))) }
     {
-        self.ring.drop_front(n);
-        let (ring, clients) = (&mut self.ring, &mut self.clients);
-        drain(&mut self.cursor, ring, clients, line, renders);
+        self.queue.drop_front(n);
+        let (queue, clients) = (&mut self.queue, &mut self.clients);
+        drain(&mut self.cursor, queue, clients, line, renders);
     }
 }
 
@@ -186,29 +174,30 @@ fn clients_cursor(ups: &UpsName, clients: &mut Clients, place: Clients) -> Curso
     Cursor::start(Listing::of_clients(ups, mem::replace(clients, place)))
 }
 
-/// Fills the ring from the cursor, where there is one; it goes once nothing rests, and gives back its place for clients.
+/// Fills the queue from the cursor, if there is one. Once nothing rests, the cursor goes and gives back its
+/// place for clients.
 fn drain(
     cursor: &mut Option<Cursor>,
-    ring: &mut Ring<RING_LIMIT>,
+    queue: &mut ByteQueue<QUEUE_LIMIT>,
     clients: &mut Option<Clients>,
     line: &mut Line,
     renders: &mut u64,
 )
-    requires ring { length ring.old ≤ RING_LIMIT }
+    requires queue { length queue.old ≤ QUEUE_LIMIT }
     requires clients { HasPlaceForClients cursor.old clients.old }
-    ensures outbox { IsOutbox ring.new cursor.new }
+    ensures outbox { IsOutbox queue.new cursor.new }
     ensures clients { HasPlaceForClients cursor.new clients.new }
-    ensures ring { ring.new ≡ ring.old ++ what_fits ring.old (rest_of cursor.old) }
-    ensures rest { rest_of cursor.new ≡ what_stays ring.old (rest_of cursor.old) }
+    ensures queue { queue.new ≡ queue.old ++ what_fits queue.old (rest_of cursor.old) }
+    ensures rest { rest_of cursor.new ≡ what_stays queue.old (rest_of cursor.old) }
     ensures counts { renders.new ≡ count_more renders.old
-        (lines (what_fits ring.old (rest_of cursor.old))) }
+        (lines (what_fits queue.old (rest_of cursor.old))) }
 {
     // The proof reads here that the count is a number of 64 bits.
     let _count = *renders;
     let Some(begun) = cursor else {
         return;
     };
-    if !begun.fill(ring, line, renders) {
+    if !begun.fill(queue, line, renders) {
         return;
     }
     if let Some(place) = cursor.take().and_then(|done| done.into_clients()) {

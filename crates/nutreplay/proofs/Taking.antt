@@ -18,7 +18,7 @@ use Rattle.nutcore.specs.Calls.{is_connected, owed_to}
 use Rattle.nutcore.specs.DriverOrders.{taken_in_event as driver_taken_in_event, owed_to_driver}
 use Rattle.nutcore.specs.History.{taken_in_event}
 use Rattle.nutcore.specs.declared.event.Event.TheVariants.{Took, DriverTook}
-use Rattle.nutlisting.specs.declared.ring.TheConstants.{RING_LIMIT}
+use Rattle.nutlisting.specs.declared.byte_queue.TheConstants.{QUEUE_LIMIT}
 use Rattle.nutreplay.specs.declared.transcript.sent.Taken.{Taken}
 use Rattle.nutcore.specs.declared.event.Peer.{Peer}
 use Rattle.nutcore.specs.declared.event.Peer.TheVariants.{Client, Driver}
@@ -67,7 +67,7 @@ taken_open : (c n : ℕ) (s : ServerState) (o : Option SessionState) (bytes : Li
 taken_open c n s None bytes e is_open b h = cc is_open
 taken_open c n s (Some x) bytes e is_open b h =
     let few : n ≤ length (offered (Some x)) = subst (λ (xs : List ℕ). n ≤ length xs) b h in
-    client_taken_of c n s (Some x) e ∙ when_true (may_take (Some x) n) (take n x.owed) (le-leb _ _ few) ∙ sym (within_offer RING_LIMIT n x.owed few) ∙ sym (ap (λ (xs : List ℕ). take n xs) b)
+    client_taken_of c n s (Some x) e ∙ when_true (may_take (Some x) n) (take n x.owed) (le-leb _ _ few) ∙ sym (within_offer QUEUE_LIMIT n x.owed few) ∙ sym (ap (λ (xs : List ℕ). take n xs) b)
 
 pub taken_some : (c n : ℕ) (s : ServerState) (bytes : List ℕ) → is_some (session c s) ≡ true → bytes ≡ offered (session c s) → n ≤ length bytes → taken_in_event c s (Took c n) ≡ take n bytes
 taken_some c n s bytes is_open b h = taken_open c n s (session c s) bytes refl is_open b h

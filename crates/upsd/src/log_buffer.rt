@@ -6,7 +6,7 @@ use arrayvec::ArrayString;
 use libc::STDERR_FILENO;
 use libc::net::{POLLOUT, poll};
 use libc::types::pollfd;
-use nutlisting::Ring;
+use nutlisting::ByteQueue;
 use nutwords::UpsName;
 use std::alloc::{AllocError, Global};
 use std::fmt::Write as _;
@@ -35,7 +35,7 @@ const PIECE_LIMIT: usize = 4096;
 #[derive(Drop)]
 pub struct LogBuffer {
     has_priorities: bool,
-    pub waiting: Ring<LOG_LIMIT>,
+    pub waiting: ByteQueue<LOG_LIMIT>,
     pub dropped: u64,
 }
 
@@ -51,7 +51,7 @@ impl LogBuffer {
     {
         Ok(LogBuffer {
             has_priorities,
-            waiting: Ring::new(alloc)?,
+            waiting: ByteQueue::new(alloc)?,
             dropped: 0,
         })
     }
@@ -85,7 +85,7 @@ impl LogBuffer {
     /// Writes what waits, as far as standard error takes it without waiting.
     pub fn flush(&mut self, rt: &HostRuntime) {
         for _ in 0..=LOG_LIMIT / PIECE_LIMIT {
-            if self.dropped > 0 && self.waiting.is_empty() {
+            if self.dropped > 0 && self.waiting.len() == 0 {
                 let count = mem::replace(&mut self.dropped, 0);
                 let line = format_args!("{count} lines of the journal were dropped");
                 self.add(INFO, None, &line);

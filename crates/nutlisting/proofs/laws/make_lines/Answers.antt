@@ -1,8 +1,9 @@
 use Rattle.std.proofs.Common.{refl}
+use Rattle.std.specs.Option.{option_copied}
 use Rattle.std.specs.List.{concat}
 use Rattle.nutlisting.specs.Content.{listing_of}
 use Rattle.nutlisting.specs.Items.{text_of, lines_of}
-use Rattle.nutlisting.specs.Places.{lines_past}
+use Rattle.nutlisting.specs.Stages.{lines_past}
 use Rattle.nutlisting.proofs.Writing.{lines_are_text, none_made, line_made, all_made}
 use Rattle.nutlisting.proofs.laws.make_lines.Goals as goal
 
@@ -14,9 +15,9 @@ loop-after-init c = record {
 
 pub loop-after-preserved : goal.loop-after-preserved
 loop-after-preserved c = record {
-  so_far = line_made (text_of (listing_of c.args.content.now)) c.next.new.line.items (lines_past c.args.content.now c.loop-after.place) (lines_past c.args.content.now c.in-Some.after) c.in-Some.ensures.next.first c.in-Some.ensures.next.whole_line c.loop-after.invariant.so_far;
+  so_far = line_made (text_of (listing_of c.args.content.now)) c.next.new.line.items (lines_past c.args.content.now (c.loop-after.stage, option_copied c.loop-after.last)) (lines_past c.args.content.now (c.in-Some.after.0, option_copied c.in-Some.after.1)) c.in-Some.ensures.next.first c.in-Some.ensures.next.whole_line c.loop-after.invariant.so_far;
   ahead = c.in-Some.ensures.ahead;
 }
 
 pub returns : goal.returns
-returns c = all_made (text_of (listing_of c.args.content.now)) (lines_past c.args.content.now c.loop-after.place) c.in_default.ensures.next c.loop-after.invariant.so_far
+returns c = all_made (text_of (listing_of c.args.content.now)) (lines_past c.args.content.now (c.loop-after.stage, option_copied c.loop-after.last)) c.in_default.ensures.next c.loop-after.invariant.so_far
