@@ -29,25 +29,23 @@ def text_of(path):
 
 # What a manual says of a program is what its sources say.
 
-JOURNAL = "crates/upsd/src/journal"
-ENTRY = f"{JOURNAL}/entry.rt"
+JOURNAL = "crates/upsd/src/journal.rt"
 # The texts of each source, and the form in which a manual has them.
 MESSAGES = [
     ("crates/upsd/src/ending.rt", r'#\[error\("(.*)"\)\]', r"\1"),
     ("crates/nutloop/src/fault.rt", r'#\[error\("(.*)"\)\]', r"\1"),
     ("crates/upsd/src/warnings.rt", r'warn_if\(.*, &"(.*)"\);', r"warning: PATH: \1"),
-    ("crates/upsd/src/warnings.rt", r'(?:format_args!\("\[\{name\}\]: |^ *\([a-z]+, ")(.*)"\)[,;]$', r"warning: PATH: [NAME]: \1"),
-    *((path, r'"(.*)"\)?;\n.*, None, &line\);', r"\1") for path in ("crates/upsd/src/log_buffer.rt", f"{JOURNAL}.rt")),
-    (f"{JOURNAL}.rt", r'format_args!\("(.*)"\)(?:\);|;\n.*, ups, &line\);)', r"su: \1"),
-    (ENTRY, r'Note::Data.* &"(.*)"\),', r"su: \1"),
-    (ENTRY, r'format_args!\("(status) \{status\}"\)', r"su: \1 STATUS"),
-    (ENTRY, r'format_args!\("(lines .*): \{count\}, the last one"\);', r"su: \1: N, the last one: REASON"),
-    (ENTRY, r'format_args!\("\{who\} (logged out)"\)', r"su: mon@192.0.2.1 \1"),
-    (ENTRY, r'Verb::.* => \(".*", "(.*?)(?<=ordered) [A-Z ]+", .*\),', r"su: mon@192.0.2.1 \1 COMMAND"),
-    (ENTRY, r'Verb::.* => \(".*", "((?!ordered [A-Z ]+").*)", .*\),', r"su: mon@192.0.2.1 \1"),
-    (ENTRY, r'format_args!\("\{who\} (was .*) \{command\}.*"\);', r"su: mon@192.0.2.1 \1 COMMAND: WORD"),
+    ("crates/upsd/src/warnings.rt", r'(?:format_args!\("\[\{\}\]: |^ *\([a-z]+, ")([^"]*)"\)?[,;)].*$', r"warning: PATH: [NAME]: \1"),
+    *((path, r'"(.*)"\)?;\n.*, None, &line\);', r"\1") for path in ("crates/upsd/src/log_buffer.rt", JOURNAL)),
+    (JOURNAL, r'format_args!\("([a-z].*)"\)(?:\);|;\n.*, ups, &line\);)', r"su: \1"),
+    (JOURNAL, r'DataState::.* &"(.*)"\),', r"su: \1"),
+    (JOURNAL, r'format_args!\("(lines .*): \{count\}, the last one"\);', r"su: \1: N, the last one: REASON"),
+    (JOURNAL, r'format_args!\("\{who\} (logged out)"\)', r"su: mon@192.0.2.1 \1"),
+    (JOURNAL, r'Verb::.* => \(".*", "(.*?)(?<=ordered) [A-Z ]+", .*\),', r"su: mon@192.0.2.1 \1 COMMAND"),
+    (JOURNAL, r'Verb::.* => \(".*", "((?!ordered [A-Z ]+").*)", .*\),', r"su: mon@192.0.2.1 \1"),
+    (JOURNAL, r'format_args!\("\{who\} (was .*) \{command\}.*"\);', r"su: mon@192.0.2.1 \1 COMMAND: WORD"),
 ]
-FORMS = {"0": "PATH", "1": "LINE", "2": "N", "count": "N", "error": "ERROR"}
+FORMS = {"0": "PATH", "1": "LINE", "2": "N", "count": "N", "error": "ERROR", "status": "STATUS"}
 FAULTS = [("crates/nutrequest/src/faults.rt", r'ClientFault::.* => push\(line, b"(.*)"\),', r"\1")]
 
 

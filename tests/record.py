@@ -91,8 +91,7 @@ def serves_on(name, most, *words, **more):
             if number % 100 == 0:
                 driver.send(b"PONG\n")
             assert good.ask(GET * 20).count(b"OL") == 20
-        said = server.journal()
-    assert said.count("upsd: the record has ended") == 1, said
+        assert comes(lambda: server.journal().count("upsd: the record has ended") == 1), server.journal()
     record = content(name)
     assert abs(len(record) - most) <= 4096, len(record)
     whole = BENCH.file("whole", record[:record.rindex(b"\n") + 1])

@@ -1,15 +1,12 @@
 //! The journal of the UPSs and their clients while they are served.
 ghost use Rattle.std.specs.Prelude.{◌≡◌, ◌≢◌, [], Some};
-ghost use Rattle.upsd.specs.Refusals.{after_note, after_notes, after_refusal, is_logged, may_log};
+ghost use Rattle.upsd.specs.Refusals.{after_note, after_notes, is_logged};
 
-mod entry;
-
-use self::entry::add_note;
-use crate::log_buffer::{INFO, LogBuffer, WARNING};
+use crate::log_buffer::{CRITICAL, INFO, LogBuffer, NOTICE, WARNING};
 use crate::serve::AllSockets;
 use crate::task::Service;
 use arrayvec::ArrayVec;
-use nutcore::{ClientId, DataState, DriverFault, Note, Server, UpsId};
+use nutcore::{ClientId, DataState, Deed, DriverFault, Note, Server, UpsId, Verb};
 use std::alloc::{AllocError, Global};
 use std::io::Error;
 use std::mem;
@@ -39,8 +36,8 @@ struct Driver {
     refused: (u64, Option<DriverFault>),
     /// The system's number of the error by which it couldn't be connected to.
     error: Option<i32>,
-    /// The second up to which it may report everything, while it hasn't.
-    deadline: Option<u64>,
+    /// The second in which it connected, while it hasn't reported everything.
+    awaited: Option<u64>,
     /// How often it was lost in this minute.
     losses: u64,
 }
@@ -78,7 +75,8 @@ impl Journal {
         })
     }
 
-    /// Logs the notes of the server's last event, and that the record has ended. Once a second it logs all else.
+    /// Logs the notes of the server's last event. Where a second begins, it first logs all else. Where neither is so it does
+    /// nothing.
     pub fn write(&mut self, rt: &HostRuntime, server: &Server, sockets: &AllSockets<'_>)
         ensures moment { self.new.moment ≡ Some server.now.state.moment }
         ensures goes_on { self.old.moment ≡ Some server.now.state.moment
@@ -90,22 +88,54 @@ impl Journal {
         let is_new = mem::replace(&mut self.moment, moment) != moment;
         if is_new {
             self.refused.clear();
+            self.log_news(server, sockets);
+        } else if server.notes().is_empty() {
+            return;
         }
         self.write_notes(server);
-        if is_new {
-            log_news(&mut self.drivers, &mut self.log, server, sockets);
-            let refusals = sockets.sockets.refusals();
-            let count = refusals.saturating_sub(mem::replace(&mut self.sent_away, refusals));
-            if count > 0 {
-                let line = format_args!("clients sent away for want of room: {count}");
-                self.log.add(INFO, None, &line);
+        self.log.flush(rt);
+    }
+
+    /// Logs what is new in this second of the drivers, of the clients and of the record, and at the end of a minute which
+    /// drivers were lost too often. A driver that hasn't reported everything within the greatest age is logged as stale.
+    fn log_news(&mut self, server: &Server, sockets: &AllSockets<'_>)
+        ensures moment { self.new.moment ≡ self.old.moment }
+        ensures refused { self.new.refused.items ≡ self.old.refused.items }
+    {
+        let (log, drivers) = (&mut self.log, &mut self.drivers);
+        let moment = server.current_moment();
+        for place in 0..server.ups().len() {
+            let u = UpsId { place: place as u8 };
+            let ups = server.ups().name(u);
+            let driver = &mut drivers[place];
+            let (count, fault) = mem::replace(&mut driver.refused, (0, None));
+            let line = format_args!("lines of the driver refused: {count}, the last one");
+            match fault {
+                Some(fault) => log.add(INFO, ups, &format_args!("{line}: {fault}")),
+                None => log.add_if(count > 0, INFO, ups, &format_args!("{line}: no such order")),
+            }
+            let was = mem::replace(&mut driver.error, sockets.sockets.driver_error(u));
+            if let (Some(number), true) = (driver.error, driver.error != was) {
+                let error = Error::from_raw_os_error(number);
+                log.add(INFO, ups, &format_args!("cannot connect: {error}"));
+            }
+            let limit = moment.saturating_sub(self.max_age);
+            let was = driver.awaited;
+            driver.awaited = was.filter(|since| *since >= limit);
+            log.add_if(was != driver.awaited, WARNING, ups, &"data stale");
+            if moment % MINUTE == 0 {
+                let count = mem::replace(&mut driver.losses, 0);
+                let line = format_args!("driver lost {count} times in a minute");
+                log.add_if(count > LOSS_LIMIT, WARNING, ups, &line);
             }
         }
-        if sockets.recorder.is_cut() && !mem::replace(&mut self.is_record_cut, true) {
-            let line = "the record has ended, at its limit or by a failed write";
-            self.log.add(WARNING, None, &line);
-        }
-        self.log.flush(rt);
+        let refusals = sockets.sockets.refusals();
+        let count = refusals.saturating_sub(mem::replace(&mut self.sent_away, refusals));
+        let line = format_args!("clients sent away for want of room: {count}");
+        log.add_if(count > 0, INFO, None, &line);
+        let was = mem::replace(&mut self.is_record_cut, sockets.recorder.is_cut());
+        let line = "the record has ended, at its limit or by a failed write";
+        log.add_if(was != self.is_record_cut, WARNING, None, &line);
     }
 
     /// Logs the notes, except for those that are logged once a second.
@@ -114,11 +144,10 @@ impl Journal {
             ≡ after_notes self.old.refused.items server.now.notes }
         ensures moment { self.new.moment ≡ self.old.moment }
     {
-        let deadline = server.current_moment().saturating_add(self.max_age);
         let notes = server.notes();
         for note in notes {
-            if take_turn(&mut self.refused, note) && keep(&mut self.drivers, deadline, note) {
-                add_note(&mut self.log, server, note);
+            if take_turn(&mut self.refused, note) {
+                log_note(&mut self.log, &mut self.drivers, server, note);
             }
         }
     }
@@ -130,70 +159,66 @@ fn take_turn(refused: &mut Refused, note: &Note) -> bool
     ensures after { refused.new.items ≡ after_note refused.old.items note.now }
 {
     match note {
-        Note::Did(deed) => deed.refusal.is_none() || take_refusal(refused, deed.who.client),
+        Note::Did(deed) if deed.refusal.is_some() => {
+            let c = deed.who.client;
+            !refused.as_slice().contains(&c) && refused.try_push(c).is_ok()
+        }
         _ => true,
     }
 }
 
-/// Whether a refusal of the session is logged. From now on it was.
-fn take_refusal(refused: &mut Refused, c: ClientId) -> bool
-    ensures logged { result ≡ may_log refused.old.items c }
-    ensures after { refused.new.items ≡ after_refusal refused.old.items c }
-{
-    if refused.is_full() || refused.as_slice().contains(&c) {
-        return false;
-    }
-    refused.push(c);
-    true
-}
-
-/// Keeps what is noted of a driver. Returns whether the note is logged at once.
-fn keep(drivers: &mut Drivers, deadline: u64, note: &Note) -> bool {
+/// Logs a note of the server, or keeps what is logged once a second.
+fn log_note(log: &mut LogBuffer, drivers: &mut Drivers, server: &Server, note: &Note) {
+    let name = |u: &UpsId| server.ups().name(*u);
     match note {
+        Note::Data(u, state) => {
+            let (lost, awaited) = (*state == DataState::Lost, *state == DataState::Awaited);
+            let driver = &mut drivers[u.place as usize];
+            driver.losses = driver.losses.saturating_add(u64::from(lost));
+            driver.awaited = awaited.then_some(server.current_moment());
+            let due = driver.losses <= LOSS_LIMIT;
+            match state {
+                DataState::Lost => log.add_if(due, WARNING, name(u), &"driver lost"),
+                DataState::Awaited => log.add_if(due, INFO, name(u), &"driver connected"),
+                DataState::Good => log.add(INFO, name(u), &"data good"),
+                DataState::Stale => log.add(WARNING, name(u), &"data stale"),
+            }
+        }
+        Note::StatusChanged(u) => {
+            let status = server.status(*u).unwrap_or(b"").escape_ascii();
+            log.add(INFO, name(u), &format_args!("status {status}"));
+        }
         Note::LinesRefused(u, count, fault) => {
             let driver = &mut drivers[u.place as usize];
             driver.refused = (driver.refused.0.saturating_add(*count), *fault);
-            false
         }
-        Note::Data(u, state) => {
-            let driver = &mut drivers[u.place as usize];
-            driver.deadline = (*state == DataState::Awaited).then_some(deadline);
-            let is_lost = *state == DataState::Lost;
-            driver.losses = driver.losses.saturating_add(u64::from(is_lost));
-            driver.losses <= LOSS_LIMIT || matches!(state, DataState::Good | DataState::Stale)
-        }
-        _ => true,
+        Note::LoggedOut(u, who) => log.add(INFO, name(u), &format_args!("{who} logged out")),
+        Note::Did(deed) => add_deed(log, deed),
     }
 }
 
-/// Logs what is new of the drivers in this second, and at the end of a minute which ones were lost too often. One that
-/// hasn't reported everything by its deadline is logged as stale.
-fn log_news(drivers: &mut Drivers, log: &mut LogBuffer, server: &Server, sockets: &AllSockets<'_>) {
-    let moment = server.current_moment();
-    for place in 0..server.ups().len() {
-        let u = UpsId { place: place as u8 };
-        let ups = server.ups().name(u);
-        let driver = &mut drivers[place];
-        let (count, fault) = mem::replace(&mut driver.refused, (0, None));
-        if count > 0 {
-            add_note(log, server, &Note::LinesRefused(u, count, fault));
-        }
-        let error = sockets.sockets.driver_error(u);
-        let was = mem::replace(&mut driver.error, error);
-        if let (Some(number), true) = (error, error != was) {
-            let error = Error::from_raw_os_error(number);
-            log.add(INFO, ups, &format_args!("cannot connect: {error}"));
-        }
-        if driver.deadline.is_some_and(|deadline| moment > deadline) {
-            driver.deadline = None;
-            add_note(log, server, &Note::Data(u, DataState::Stale));
-        }
-        if moment % MINUTE == 0 {
-            let count = mem::replace(&mut driver.losses, 0);
-            if count > LOSS_LIMIT {
-                let line = format_args!("driver lost {count} times in a minute");
-                log.add(WARNING, ups, &line);
-            }
+/// Logs what a line of a client did. Each command has its name, what is said where it was granted, and the priority of
+/// that.
+fn add_deed(log: &mut LogBuffer, deed: &Deed) {
+    let (ups, who) = (deed.ups.as_ref(), &deed.who);
+    let (command, granted, priority) = match deed.verb {
+        Verb::Login => ("LOGIN", "logged in", INFO),
+        Verb::Primary => ("PRIMARY", "ordered PRIMARY", INFO),
+        Verb::Fsd => ("FSD", "ordered FSD: forced shutdown", CRITICAL),
+        Verb::SetVar => ("SET VAR", "ordered SET VAR", NOTICE),
+        Verb::InstCmd => ("INSTCMD", "ordered INSTCMD", NOTICE),
+    };
+    let (space, name) = match &deed.name {
+        Some(name) => (" ", name.as_bytes()),
+        None => ("", b"".as_slice()),
+    };
+    let name = name.escape_ascii();
+    match &deed.refusal {
+        None => log.add(priority, ups, &format_args!("{who} {granted}{space}{name}")),
+        Some(word) => {
+            let word = word.as_bytes().escape_ascii();
+            let line = format_args!("{who} was refused {command}{space}{name}: {word}");
+            log.add(INFO, ups, &line);
         }
     }
 }

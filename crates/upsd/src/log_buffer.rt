@@ -9,9 +9,9 @@ use libc::types::pollfd;
 use nutlisting::ByteQueue;
 use nutwords::UpsName;
 use std::alloc::{AllocError, Global};
-use std::fmt::Write as _;
+use std::fmt::{Display, Write as _};
 use std::io::Write;
-use std::{fmt, mem};
+use std::mem;
 
 /// The priorities of lines (syslog(3)).
 pub const CRITICAL: u8 = 2;
@@ -58,7 +58,7 @@ impl LogBuffer {
 
     /// Adds a line of this priority, about the UPS if there is one. A line that has no room is dropped and counted. So are
     /// those after it, until the count is logged. Takes no memory.
-    pub fn add<D: fmt::Display>(&mut self, priority: u8, ups: Option<&UpsName>, line: &D) {
+    pub fn add<D: Display>(&mut self, priority: u8, ups: Option<&UpsName>, line: &D) {
         let mut text = ArrayString::<LINE_LIMIT>::new();
         if self.has_priorities {
             let _ = write!(text, "<{priority}>");
@@ -69,6 +69,13 @@ impl LogBuffer {
         }
         let _ = writeln!(text, "{line}");
         self.add_line(text.as_bytes());
+    }
+
+    /// Adds a line, where it is due.
+    pub fn add_if<D: Display>(&mut self, due: bool, priority: u8, ups: Option<&UpsName>, line: &D) {
+        if due {
+            self.add(priority, ups, line);
+        }
     }
 
     /// Adds a line, or counts it as dropped.
@@ -85,19 +92,18 @@ impl LogBuffer {
     /// Writes what waits, as far as standard error takes it without waiting.
     pub fn flush(&mut self, rt: &HostRuntime) {
         for _ in 0..=LOG_LIMIT / PIECE_LIMIT {
-            if self.dropped > 0 && self.waiting.len() == 0 {
+            if self.waiting.len() == 0 {
                 let count = mem::replace(&mut self.dropped, 0);
                 let line = format_args!("{count} lines of the journal were dropped");
-                self.add(INFO, None, &line);
+                self.add_if(count > 0, INFO, None, &line);
             }
             let count = self.waiting.len().min(PIECE_LIMIT);
             if count == 0 || !takes_bytes() {
                 return;
             }
-            match rt.stderr().write(&self.waiting.bytes()[..count]) {
-                Ok(written) => self.waiting.drop_front(written),
-                Err(_) => return,
-            }
+            let piece = &self.waiting.bytes()[..count];
+            let written = rt.stderr().write(piece).unwrap_or(0);
+            self.waiting.drop_front(written);
         }
     }
 }

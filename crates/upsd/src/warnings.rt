@@ -19,11 +19,9 @@ pub fn warn(rt: &HostRuntime, files: Files<'_>, list: &UpsList, users: &Users) {
         warn_if(rt, list.len() == 0, path, &"no UPS");
         for place in 0..list.len() {
             let u = UpsId { place: place as u8 };
-            if let (Some(name), None) = (list.name(u), list.socket(u)) {
-                let name = name.as_bytes().escape_ascii();
-                let warning = format_args!("[{name}]: no socket of a driver");
-                warn_if(rt, true, path, &warning);
-            }
+            let name = list.name(u).map_or(b"".as_slice(), |name| name.as_bytes());
+            let warning = format_args!("[{}]: no socket of a driver", name.escape_ascii());
+            warn_if(rt, list.socket(u).is_none(), path, &warning);
         }
     }
     if let Some(path) = files.ids {
