@@ -6,11 +6,13 @@ mod entry;
 
 use self::entry::add_note;
 use crate::log_buffer::{INFO, LogBuffer, WARNING};
-use crate::serve::AllSockets;
+use crate::recorded::Served;
 use crate::task::Service;
 use arrayvec::ArrayVec;
 use nutcore::{ClientId, DataState, DriverFault, Note, Server, UpsId};
+use nutloop::MioSockets;
 use std::alloc::{AllocError, Global};
+use std::fs::File;
 use std::io::Error;
 use std::mem;
 
@@ -79,7 +81,7 @@ impl Journal {
     }
 
     /// Logs the notes of the server's last event, and that the record has ended. Once a second it logs all else.
-    pub fn write(&mut self, rt: &HostRuntime, server: &Server, sockets: &AllSockets<'_>)
+    pub fn write<S: Served<File>>(&mut self, rt: &HostRuntime, server: &Server, sockets: &S)
         ensures moment { self.new.moment ≡ Some server.now.state.moment }
         ensures goes_on { self.old.moment ≡ Some server.now.state.moment
             → self.new.refused.items ≡ after_notes self.old.refused.items server.now.notes }
@@ -92,16 +94,17 @@ impl Journal {
             self.refused.clear();
         }
         self.write_notes(server);
+        let (sockets, is_cut) = sockets.shown();
         if is_new {
             log_news(&mut self.drivers, &mut self.log, server, sockets);
-            let refusals = sockets.sockets.refusals();
+            let refusals = sockets.refusals();
             let count = refusals.saturating_sub(mem::replace(&mut self.sent_away, refusals));
             if count > 0 {
                 let line = format_args!("clients sent away for want of room: {count}");
                 self.log.add(INFO, None, &line);
             }
         }
-        if sockets.recorder.is_cut() && !mem::replace(&mut self.is_record_cut, true) {
+        if is_cut && !mem::replace(&mut self.is_record_cut, true) {
             let line = "the record has ended, at its limit or by a failed write";
             self.log.add(WARNING, None, &line);
         }
@@ -168,7 +171,12 @@ fn keep(drivers: &mut Drivers, deadline: u64, note: &Note) -> bool {
 
 /// Logs what is new of the drivers in this second, and at the end of a minute which ones were lost too often. One that
 /// hasn't reported everything by its deadline is logged as stale.
-fn log_news(drivers: &mut Drivers, log: &mut LogBuffer, server: &Server, sockets: &AllSockets<'_>) {
+fn log_news(
+    drivers: &mut Drivers,
+    log: &mut LogBuffer,
+    server: &Server,
+    sockets: &MioSockets<'_, HostRuntime, File>,
+) {
     let moment = server.current_moment();
     for place in 0..server.ups().len() {
         let u = UpsId { place: place as u8 };
@@ -178,7 +186,7 @@ fn log_news(drivers: &mut Drivers, log: &mut LogBuffer, server: &Server, sockets
         if count > 0 {
             add_note(log, server, &Note::LinesRefused(u, count, fault));
         }
-        let error = sockets.sockets.driver_error(u);
+        let error = sockets.driver_error(u);
         let was = mem::replace(&mut driver.error, error);
         if let (Some(number), true) = (error, error != was) {
             let error = Error::from_raw_os_error(number);
