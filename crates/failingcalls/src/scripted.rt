@@ -99,6 +99,10 @@ impl Sockets for Scripted {
 
     ghost failures = { λ s. s.failures };
 
+    fn is_busy(&self, _server: &Server) -> bool {
+        false
+    }
+
     fn ready(&mut self, _server: &Server) -> Result<Ready, Broken> {
         let Act::Ready(ready) = self.next() else {
             return Err(self.fail());

@@ -267,6 +267,14 @@ impl<'a, R: Net + Clock, F: Read + Drop> Sockets for MioSockets<'a, R, F> {
 
     ghost failures = { λ s. s.failures };
 
+    /// Whether this pass has a turn left.
+    fn is_busy(&self, server: &Server) -> bool {
+        let mut pass = self.pass;
+        let (drivers, clients) = (self.drivers.as_slice(), self.clients.as_slice());
+        pass.visit(server, self.door.is_knocked_at, drivers, clients)
+            .is_some()
+    }
+
     /// An id that is due, or the next turn.
     fn ready(&mut self, server: &Server) -> Result<Ready, Broken> {
         if let Some(ids) = &mut self.ids {

@@ -75,6 +75,9 @@ pub trait Sockets {
     /// How many calls failed. The count stops at its greatest number.
     ghost failures: { Self → ℕ };
 
+    /// Whether somebody is known to be ready: the next `ready` doesn't wait then.
+    fn is_busy(&self, server: &Server) -> bool;
+
     /// What is ready now, of what concerns this server.
     fn ready(&mut self, server: &Server) -> Result<Ready, Broken>
         ensures told { Logs (calls self.old) (calls self.new) Readied result }

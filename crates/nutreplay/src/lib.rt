@@ -7,4 +7,4 @@ mod script;
 mod transcript;
 
 pub use replaying::{REPLAY_MAX_AGE, ReplayFault, replay};
-pub use script::{line_of, line_of_bytes};
+pub use script::{add_line, add_line_of_bytes};

@@ -8,7 +8,7 @@ mod line;
 pub use self::action::Action;
 use self::action::read_line;
 pub(crate) use self::action::took;
-pub use self::line::{line_of, line_of_bytes};
+pub use self::line::{add_line, add_line_of_bytes};
 use crate::replaying::ReplayFault;
 use nutcore::UpsList;
 use nutwords::{TextLines, is_silent};

@@ -1,9 +1,8 @@
 -- A recorder after one more event.
-use Rattle.std.proofs.Common.{◌≡◌, ◌∙◌, ℕ, Bool, true, false, not, ◌&&◌, is_some, List, [], ◌∷◌, ◌++◌, Option, Some, None, refl, sym, ap, subst, append-nil, append_assoc}
-use Rattle.std.specs.Io.KnownBytes.{Appends}
-use Rattle.std.specs.Option.{option_and_then}
+use Rattle.std.proofs.Common.{◌≡◌, ◌∙◌, ℕ, Bool, true, false, not, is_some, string_bytes, ◌⊎◌, inl, inr, List, [], ◌∷◌, ◌++◌, Option, Some, None, refl, sym, ap, subst, append-nil, append_assoc}
+use Rattle.std.specs.Prelude.{OnSome}
 use Rattle.nutio.specs.Ends.{IsBeginning}
-use Rattle.nutusers.specs.UpsList.{Ups}
+use Rattle.nutusers.specs.UpsList.{Ups, IsList}
 use Rattle.nutcore.specs.declared.event.Event.{Event}
 use Rattle.nutcore.specs.declared.event.Peer.{Peer}
 use Rattle.nutcore.specs.declared.event.Peer.TheVariants.{Client, Driver}
@@ -12,16 +11,7 @@ use Rattle.nutreplay.specs.Script.{sent}
 use Rattle.nutreplay.specs.Written.{IsReadAs, IsEventOf, line_of, line_of_bytes}
 use Rattle.nutreplay.proofs.ReadBack.{what_is_written_is_read_back}
 use Rattle.upsd.specs.declared.recorded.Recorder.{Recorder}
-use Rattle.upsd.specs.Recorded.{next_line, HasEnded, IsRecordOf, RecordsNext, Leaves}
-
-stays : (a : Option (List ℕ)) → Appends a a []
-stays None = tt
-stays (Some xs) = sym (append-nil xs)
-
-known_then : (a b : Option (List ℕ)) (script text : List ℕ) → a ≡ Some script → Appends a b text → b ≡ Some (script ++ text)
-known_then None b script text known h = cc known
-known_then (Some xs) None script text known h = absurd h
-known_then (Some xs) (Some ys) script text known h = cc
+use Rattle.upsd.specs.Recorded.{next_line, HasEnded, GoesOn, IsRecordOf, Records, RecordsNext}
 
 -- One more event where the record has ended.
 later : (list : List Ups) (part : List ℕ) (lost : List Event) (e : Event) → IsBeginning part (next_line list lost) → IsBeginning part (next_line list (lost ++ e ∷ []))
@@ -45,13 +35,45 @@ ended_then list script events e h = record {
 ends : (list : List Ups) (script front : List ℕ) (events : List Event) (e : Event) → IsReadAs list script events → IsBeginning front (line_of list e) → HasEnded list (script ++ front) (events ++ e ∷ [])
 ends list script front events e read begins = record { lines = script; part = front; first = events; lost = e ∷ []; script_is = refl; events_are = refl; read = read; begins = begins }
 
-pub goes_on : {W : Type 0} (recorder : Recorder W) → (is_some recorder.writer && not recorder.is_cut) ≡ true → recorder.is_cut ≡ false
-goes_on recorder on = of (is_some recorder.writer) recorder.is_cut on
+-- A beginning of two texts is one of the first, or all of it and a beginning of the second.
+front_of : (a b front : List ℕ) → IsBeginning front (a ++ b) → IsBeginning front a ⊎ ((tail : List ℕ) × ((front ≡ a ++ tail) × IsBeginning tail b))
+front_of [] b front h = inr (front, (refl, h))
+front_of (x ∷ a) b [] h = inl (x ∷ a, refl)
+front_of (x ∷ a) b (y ∷ front) h = of (front_of a b front (h.0, cc (h.1)))
   where
-    of : (a b : Bool) → (a && not b) ≡ true → b ≡ false
-    of a false h = refl
-    of true true h = cc h
-    of false true h = cc h
+    of : IsBeginning front a ⊎ ((tail : List ℕ) × ((front ≡ a ++ tail) × IsBeginning tail b)) → IsBeginning (y ∷ front) (x ∷ a) ⊎ ((tail : List ℕ) × ((y ∷ front ≡ x ∷ (a ++ tail)) × IsBeginning tail b))
+    of (inl begins) = inl (begins.0, cc (h.1, begins.1))
+    of (inr (tail, (is, begins))) = inr (tail, (cc (h.1, is), begins))
+
+-- What is written is read as the events, and nothing waits.
+pub nothing_waits : (list : List Ups) (script : List ℕ) (events : List Event) → IsReadAs list script events → GoesOn list script [] events
+nothing_waits list script events read = record {
+  read = subst (λ s. IsReadAs list s events) (sym (append-nil script)) read;
+  stops = λ front begins. record { lines = script; part = front; first = events; lost = []; script_is = refl; events_are = sym (append-nil events); read = read; begins = begins };
+}
+
+-- The line of one more event waits.
+goes_on_with : (list : List Ups) (script waiting : List ℕ) (events : List Event) (e : Event) → IsList list → IsEventOf list e → GoesOn list script waiting events
+    → GoesOn list script (waiting ++ line_of list e) (events ++ e ∷ [])
+goes_on_with list script waiting events e is_list lawful h = record {
+  read = subst (λ s. IsReadAs list s (events ++ e ∷ [])) (append_assoc script waiting (line_of list e)) (what_is_written_is_read_back list (script ++ waiting) events e is_list lawful h.read);
+  stops = λ front begins. of front (front_of waiting (line_of list e) front begins);
+}
+  where
+    of : (front : List ℕ) → IsBeginning front waiting ⊎ ((tail : List ℕ) × ((front ≡ waiting ++ tail) × IsBeginning tail (line_of list e))) → HasEnded list (script ++ front) (events ++ e ∷ [])
+    of front (inl begins) = ended_then list (script ++ front) events e (h.stops front begins)
+    of front (inr (tail, (is, begins))) = subst (λ s. HasEnded list s (events ++ e ∷ [])) (append_assoc script waiting tail ∙ ap (λ t. script ++ t) (sym is)) (ends list (script ++ waiting) tail events e h.read begins)
+
+-- The record ends, and what waits is not written any more.
+ends_here : (list : List Ups) (script waiting : List ℕ) (events : List Event) (e : Event) → GoesOn list script waiting events → HasEnded list script (events ++ e ∷ [])
+ends_here list script waiting events e h = ended_then list script events e (subst (λ s. HasEnded list s events) (append-nil script) (h.stops [] (waiting, refl)))
+
+kept : {A : Type 0} (list : List Ups) (script waiting after : List ℕ) (events : List Event) (e : Event) (done : Option A) (cut : Bool) → is_some done ≡ not cut → IsList list → OnSome done (after ≡ waiting ++ line_of list e)
+    → OnSome done (IsEventOf list e) → GoesOn list script waiting events → IsRecordOf list cut script after (events ++ e ∷ [])
+kept list script waiting after events e (Some u) true is is_list line lawful h = cc is
+kept list script waiting after events e None false is is_list line lawful h = cc is
+kept list script waiting after events e (Some u) false is is_list line lawful h = subst (λ w. GoesOn list script w (events ++ e ∷ [])) (sym line) (goes_on_with list script waiting events e is_list lawful h)
+kept list script waiting after events e None true is is_list line lawful h = ends_here list script waiting events e h
 
 -- The bytes that come from a client or a driver.
 pub came : (from : Peer) (bytes : List ℕ) → sent from bytes ≡ came_from from bytes
@@ -63,45 +85,23 @@ line_came list (Client c) bytes = refl
 line_came list (Driver u) bytes = refl
 
 module _ {W : Type 0} (contents : W → Option (List ℕ)) where
-  of_off : (list : List Ups) (writer : Option W) (cut : Bool) (script : List ℕ) (events : List Event) (e : Event) → (is_some writer && not cut) ≡ false
-      → option_and_then contents writer ≡ Some script → IsRecordOf list cut script events → IsRecordOf list cut script (events ++ e ∷ [])
-  of_off list None cut script events e off known is = cc known
-  of_off list (Some w) false script events e off known is = cc off
-  of_off list (Some w) true script events e off known is = ended_then list script events e is
-
-  pub is_off : (recorder : Recorder W) (e : Event) → (is_some recorder.writer && not recorder.is_cut) ≡ false → RecordsNext contents recorder e recorder
+  -- The record has ended.
+  pub is_off : (recorder : Recorder W) (e : Event) → recorder.is_cut ≡ true → RecordsNext contents recorder e recorder
   is_off recorder e off = λ events h. record {
     is_list = h.is_list;
     script = h.script;
     known = h.known;
-    is = of_off recorder.list recorder.writer recorder.is_cut h.script events e off h.known h.is;
+    is = subst (λ b. IsRecordOf recorder.list b h.script (string_bytes recorder.waiting) (events ++ e ∷ [])) (sym off)
+        (ended_then recorder.list h.script events e (subst (λ b. IsRecordOf recorder.list b h.script (string_bytes recorder.waiting) events) off h.is));
   }
 
-  -- The line was written, or a front of it.
-  pub written : {A : Type 0} (old : Recorder W) (w after : W) (left : ℕ) (text : List ℕ) (done : Option A) (cut : Bool) (e : Event) → old.is_cut ≡ false → old.writer ≡ Some w
-      → is_some done ≡ not cut → IsEventOf old.list e → text ≡ line_of old.list e → Leaves contents w text (is_some done) after
-      → RecordsNext contents old e (record old { writer = Some after; left = left; is_cut = cut })
-  written old w after left text (Some u) true e goes_on is done_is lawful line leaves = cc done_is
-  written old w after left text None false e goes_on is done_is lawful line leaves = cc done_is
-  written old w after left text (Some u) false e goes_on is done_is lawful line leaves = λ events h. record {
-    is_list = h.is_list;
-    script = h.script ++ text;
-    known = known_then (contents w) (contents after) h.script text (sym (ap (option_and_then contents) is) ∙ h.known) leaves;
-    is = subst (λ t. IsReadAs old.list (h.script ++ t) (events ++ e ∷ [])) (sym line)
-        (what_is_written_is_read_back old.list h.script events e h.is_list lawful (subst (λ b. IsRecordOf old.list b h.script events) goes_on h.is));
-  }
-  written old w after left text None true e goes_on is done_is lawful line leaves = λ events h. record {
-    is_list = h.is_list;
-    script = h.script ++ leaves.0;
-    known = known_then (contents w) (contents after) h.script leaves.0 (sym (ap (option_and_then contents) is) ∙ h.known) leaves.2;
-    is = ends old.list h.script leaves.0 events e (subst (λ b. IsRecordOf old.list b h.script events) goes_on h.is) (subst (λ t. IsBeginning leaves.0 t) line leaves.1);
-  }
-
-  -- There was no line.
-  pub unwritten : (old : Recorder W) (w : W) (e : Event) → old.is_cut ≡ false → old.writer ≡ Some w → RecordsNext contents old e (record old { writer = Some w; is_cut = true })
-  unwritten old w e goes_on is = λ events h. record {
-    is_list = h.is_list;
-    script = h.script ++ [];
-    known = known_then (contents w) (contents w) h.script [] (sym (ap (option_and_then contents) is) ∙ h.known) (stays (contents w));
-    is = ends old.list h.script [] events e (subst (λ b. IsRecordOf old.list b h.script events) goes_on h.is) (line_of old.list e, refl);
+  -- The line was added to those that wait, or the record ends.
+  pub added : {A : Type 0} (old new : Recorder W) (e : Event) (done : Option A) → new.list ≡ old.list → new.writer ≡ old.writer → is_some done ≡ not new.is_cut → old.is_cut ≡ false
+      → OnSome done (string_bytes new.waiting ≡ string_bytes old.waiting ++ line_of old.list e) → OnSome done (IsEventOf old.list e) → RecordsNext contents old e new
+  added old new e done same_list same_writer cut goes_on line lawful = λ events h. record {
+    is_list = subst IsList (sym same_list) h.is_list;
+    script = h.script;
+    known = ap contents same_writer ∙ h.known;
+    is = subst (λ list. IsRecordOf list new.is_cut h.script (string_bytes new.waiting) (events ++ e ∷ [])) (sym same_list)
+        (kept old.list h.script (string_bytes old.waiting) (string_bytes new.waiting) events e done new.is_cut cut h.is_list line lawful (subst (λ b. IsRecordOf old.list b h.script (string_bytes old.waiting) events) goes_on h.is));
   }

@@ -1,6 +1,5 @@
 -- What a recorder has written of the events, and what that is read as.
-use Rattle.std.specs.Prelude.{◌≡◌, ℕ, Bool, true, false, List, [], ◌∷◌, ◌++◌, Option, Some, Result}
-use Rattle.std.specs.Option.{option_and_then}
+use Rattle.std.specs.Prelude.{◌≡◌, ℕ, Bool, true, false, List, [], ◌∷◌, ◌++◌, Option, Some, Result, string_bytes}
 use Rattle.std.specs.Io.KnownBytes.{Appends}
 use Rattle.nutio.specs.Ends.{IsBeginning}
 use Rattle.nutusers.specs.UpsList.{Ups, IsList}
@@ -32,18 +31,24 @@ pub record HasEnded (list : List Ups) (script : List ℕ) (events : List Event) 
   pub read : IsReadAs list lines first
   pub begins : IsBeginning part (next_line list lost)
 
--- A record of these events, which may have ended.
-abbrev pub IsRecordOf : List Ups → Bool → List ℕ → List Event → Type 0
-IsRecordOf list false script events = IsReadAs list script events
-IsRecordOf list true script events = HasEnded list script events
+-- A record that goes on: what is written and what waits are read as these events. Wherever the
+-- writing of what waits stops, the record has ended.
+pub record GoesOn (list : List Ups) (script waiting : List ℕ) (events : List Event) : Type 0 where
+  pub read : IsReadAs list (script ++ waiting) events
+  pub stops : (front : List ℕ) → IsBeginning front waiting → HasEnded list (script ++ front) events
 
--- The recorder has recorded these events, and what it wrote is known.
+-- A record of these events, which may have ended.
+abbrev pub IsRecordOf : List Ups → Bool → List ℕ → List ℕ → List Event → Type 0
+IsRecordOf list false script waiting events = GoesOn list script waiting events
+IsRecordOf list true script waiting events = HasEnded list script events
+
+-- The recorder has recorded these events: what it wrote is known, and the lines that wait follow.
 pub record Records {W : Type 0} (contents : W → Option (List ℕ)) (recorder : Recorder W)
     (events : List Event) : Type 0 where
   pub is_list : IsList recorder.list
   pub script : List ℕ
-  pub known : option_and_then contents recorder.writer ≡ Some script
-  pub is : IsRecordOf recorder.list recorder.is_cut script events
+  pub known : contents recorder.writer ≡ Some script
+  pub is : IsRecordOf recorder.list recorder.is_cut script (string_bytes recorder.waiting) events
 
 -- A recorder becomes one that has recorded this event, too.
 abbrev pub RecordsNext : {W : Type 0} → (W → Option (List ℕ)) → Recorder W → Event → Recorder W

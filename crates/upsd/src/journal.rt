@@ -3,11 +3,12 @@ ghost use Rattle.std.specs.Prelude.{◌≡◌, ◌≢◌, [], Some};
 ghost use Rattle.upsd.specs.Refusals.{after_note, after_notes, is_logged};
 
 use crate::log_buffer::{CRITICAL, INFO, LogBuffer, NOTICE, WARNING};
-use crate::serve::AllSockets;
+use crate::recorded::Served;
 use crate::task::Service;
 use arrayvec::ArrayVec;
 use nutcore::{ClientId, DataState, Deed, DriverFault, Note, Server, UpsId, Verb};
 use std::alloc::{AllocError, Global};
+use std::fs::File;
 use std::io::Error;
 use std::mem;
 
@@ -77,7 +78,7 @@ impl Journal {
 
     /// Logs the notes of the server's last event. Where a second begins, it first logs all else. Where neither is so it does
     /// nothing.
-    pub fn write(&mut self, rt: &HostRuntime, server: &Server, sockets: &AllSockets<'_>)
+    pub fn write<S: Served<File>>(&mut self, rt: &HostRuntime, server: &Server, sockets: &S)
         ensures moment { self.new.moment ≡ Some server.now.state.moment }
         ensures goes_on { self.old.moment ≡ Some server.now.state.moment
             → self.new.refused.items ≡ after_notes self.old.refused.items server.now.notes }
@@ -98,11 +99,12 @@ impl Journal {
 
     /// Logs what is new in this second of the drivers, of the clients and of the record, and at the end of a minute which
     /// drivers were lost too often. A driver that hasn't reported everything within the greatest age is logged as stale.
-    fn log_news(&mut self, server: &Server, sockets: &AllSockets<'_>)
+    fn log_news<S: Served<File>>(&mut self, server: &Server, sockets: &S)
         ensures moment { self.new.moment ≡ self.old.moment }
         ensures refused { self.new.refused.items ≡ self.old.refused.items }
     {
         let (log, drivers) = (&mut self.log, &mut self.drivers);
+        let (sockets, is_cut) = sockets.shown();
         let moment = server.current_moment();
         for place in 0..server.ups().len() {
             let u = UpsId { place: place as u8 };
@@ -114,7 +116,7 @@ impl Journal {
                 Some(fault) => log.add(INFO, ups, &format_args!("{line}: {fault}")),
                 None => log.add_if(count > 0, INFO, ups, &format_args!("{line}: no such order")),
             }
-            let was = mem::replace(&mut driver.error, sockets.sockets.driver_error(u));
+            let was = mem::replace(&mut driver.error, sockets.driver_error(u));
             if let (Some(number), true) = (driver.error, driver.error != was) {
                 let error = Error::from_raw_os_error(number);
                 log.add(INFO, ups, &format_args!("cannot connect: {error}"));
@@ -129,11 +131,11 @@ impl Journal {
                 log.add_if(count > LOSS_LIMIT, WARNING, ups, &line);
             }
         }
-        let refusals = sockets.sockets.refusals();
+        let refusals = sockets.refusals();
         let count = refusals.saturating_sub(mem::replace(&mut self.sent_away, refusals));
         let line = format_args!("clients sent away for want of room: {count}");
         log.add_if(count > 0, INFO, None, &line);
-        let was = mem::replace(&mut self.is_record_cut, sockets.recorder.is_cut());
+        let was = mem::replace(&mut self.is_record_cut, is_cut);
         let line = "the record has ended, at its limit or by a failed write";
         log.add_if(was != self.is_record_cut, WARNING, None, &line);
     }

@@ -28,9 +28,9 @@ pub fn a_refusal_is_logged_once_a_second()
     ensures { ARefusalIsLoggedOnceASecond }
 {}
 
-/// Over any turns, whatever the sockets do, `replay` reads what is recorded after comments as exactly
-/// the events of these turns. A record that ended early holds the lines of a beginning of them, and
-/// at most a beginning of one more line.
+/// Over any turns, whatever the sockets do, `replay` reads what is written after comments, and what
+/// waits, as exactly their events. Wherever the writing stops, the file has the lines of a beginning
+/// of these, and at most a beginning of one more.
 pub fn a_record_is_the_run<S: Sockets, W: Sink + Drop>()
     ensures { ARecordIsTheRun ⟦<Recorded<S, W> as Sockets>⟧.calls
         ⟦<Recorded<S, W> as Sockets>⟧.failures W.contents }

@@ -1,84 +1,65 @@
 //! Sockets that write down each event of the server, as a line of a script that `replay` reads.
-ghost use Rattle.std.specs.Prelude.{◌≡◌, ◌&&◌, not, false, is_some, IfSome, OnSome, List, ℕ, Some, [], string_bytes};
-ghost use Rattle.std.specs.Option.{option_and_then};
+ghost use Rattle.std.specs.Prelude.{◌≡◌, false, is_some, IfSome, OnSome, List, ℕ, Some, [], string_bytes};
 ghost use Rattle.nutcore.specs.declared.event.Event.{Event};
-ghost use Rattle.nutloop.specs.Sockets.{came_from};
+ghost use Rattle.nutloop.specs.Sockets.{Continues, came_from};
 ghost use Rattle.nutreplay.specs.Written.{IsEventOf, IsReadAs, line_of};
 ghost use Rattle.upsd.specs.Recorded.{Leaves, Records, RecordsNext, recorded};
 
 use nutcore::{ClientId, Event, Peer, Server, UpsList};
 use nutio::{Sink, send};
-use nutloop::{Broken, Got, Ready, Sockets};
-use nutreplay::{line_of, line_of_bytes};
+use nutloop::{Broken, Got, MioSockets, Ready, Sockets};
+use nutreplay::{add_line, add_line_of_bytes};
 use nutwords::Address;
 use std::alloc::Global;
+use std::io::Read;
 
 /// Writes the events of a server, up to the first line that it can't write.
 #[derive(Drop)]
 pub struct Recorder<W> {
-    alloc: Global,
     /// The UPSs, by which the lines name them.
     list: UpsList,
-    writer: Option<W>,
+    writer: W,
+    /// The lines that aren't written yet.
+    waiting: String,
     /// How many bytes may still be written.
     left: u64,
     is_cut: bool,
 }
 
 impl<W: Sink + Drop> Recorder<W> {
-    /// A recorder that writes at most so many bytes. Without a writer it writes nothing.
-    pub fn new(alloc: Global, list: UpsList, writer: Option<W>, left: u64) -> Self
-        ensures { (script : List ℕ) → option_and_then W.contents writer ≡ Some script
+    /// A recorder that writes at most so many bytes.
+    pub fn new(alloc: Global, list: UpsList, writer: W, left: u64) -> Self
+        ensures { (script : List ℕ) → W.contents writer ≡ Some script
             → IsReadAs list script [] → Records W.contents result [] }
     {
         // The list is lawful.
         let _ = list.len();
         Recorder {
-            alloc,
             list,
             writer,
+            waiting: String::new(alloc),
             left,
             is_cut: false,
         }
     }
 
-    /// Whether the record has ended: by a failed write, by its limit, or without memory for a line.
-    pub fn is_cut(&self) -> bool {
-        self.is_cut
-    }
-
-    /// Whether it may still write.
-    fn is_on(&self) -> bool
-        ensures { result ≡ (is_some self.now.writer && not self.now.is_cut) }
+    /// Writes the lines that wait, at once. Where that fails the record has ended.
+    fn flush(&mut self)
+        ensures { Continues (Records W.contents self.old) (Records W.contents self.new) [] }
     {
-        self.writer.is_some() && !self.is_cut
-    }
-
-    /// Writes the line of an event whole and at once. Where there is none, or that fails, the
-    /// record has ended.
-    fn write(&mut self, line: Option<String>)
-        ensures { (event : Event) → self.old.is_cut ≡ false
-            → IfSome line (λ line. string_bytes line ≡ line_of self.old.list event)
-            → OnSome line (IsEventOf self.old.list event)
-            → RecordsNext W.contents self.old event self.new }
-    {
-        let Some(writer) = &mut self.writer else {
-            return;
-        };
-        let Some(line) = line else {
-            self.is_cut = true;
-            return;
-        };
-        self.is_cut = write_within(writer, &mut self.left, line.as_bytes()).is_none();
+        if !self.is_cut && !self.waiting.is_empty() {
+            let lines = self.waiting.as_bytes();
+            self.is_cut = write_within(&mut self.writer, &mut self.left, lines).is_none();
+            self.waiting.clear();
+        }
     }
 
     /// Records the event.
     fn event(&mut self, event: &Event)
         ensures { RecordsNext W.contents self.old event.now self.new }
     {
-        if self.is_on() {
-            let line = line_of(self.alloc, &self.list, event);
-            self.write(line);
+        if !self.is_cut {
+            self.is_cut = add_line(&mut self.waiting, &self.list, event).is_none();
         }
     }
 
@@ -86,9 +67,9 @@ impl<W: Sink + Drop> Recorder<W> {
     fn bytes(&mut self, from: Peer, bytes: &[u8])
         ensures { RecordsNext W.contents self.old (came_from from bytes.now) self.new }
     {
-        if self.is_on() {
-            let line = line_of_bytes(self.alloc, &self.list, from, bytes);
-            self.write(line);
+        if !self.is_cut {
+            let added = add_line_of_bytes(&mut self.waiting, &self.list, from, bytes);
+            self.is_cut = added.is_none();
         }
     }
 }
@@ -99,6 +80,25 @@ fn write_within<W: Sink>(writer: &mut W, left: &mut u64, text: &[u8]) -> Option<
 {
     *left = left.checked_sub(text.len() as u64)?;
     send(writer, text).ok()
+}
+
+/// The sockets of the system, which may be recorded.
+pub trait Served<F>: Sockets {
+    /// They, and whether their record has ended: by a failed write, by its limit, or without memory
+    /// for a line.
+    fn shown(&self) -> (&MioSockets<'_, HostRuntime, F>, bool);
+}
+
+impl<F: Read + Drop> Served<F> for MioSockets<'_, HostRuntime, F> {
+    fn shown(&self) -> (&MioSockets<'_, HostRuntime, F>, bool) {
+        (self, false)
+    }
+}
+
+impl<F: Read + Drop, W: Sink + Drop> Served<F> for Recorded<MioSockets<'_, HostRuntime, F>, W> {
+    fn shown(&self) -> (&MioSockets<'_, HostRuntime, F>, bool) {
+        (&self.sockets, self.recorder.is_cut)
+    }
 }
 
 /// Sockets whose events are recorded before they happen.
@@ -113,7 +113,14 @@ impl<S: Sockets, W: Sink + Drop> Sockets for Recorded<S, W> {
 
     ghost failures = { λ r. S.failures r.sockets };
 
+    fn is_busy(&self, server: &Server) -> bool {
+        self.sockets.is_busy(server)
+    }
+
     fn ready(&mut self, server: &Server) -> Result<Ready, Broken> {
+        if !self.sockets.is_busy(server) {
+            self.recorder.flush();
+        }
         self.sockets.ready(server)
     }
 

@@ -11,12 +11,12 @@ use crate::ending::Ending;
 use crate::files::{Files, configuration_in};
 use crate::journal::Journal;
 use crate::reading::{FileReader, create, open};
-use crate::recorded::{Recorded, Recorder};
+use crate::recorded::{Recorded, Recorder, Served};
 use crate::task::Service;
 use crate::warnings::warn;
 use nutcore::{MaxAge, Server};
 use nutio::{CountedWriter, Sink, send};
-use nutloop::{MioSockets, Sockets};
+use nutloop::MioSockets;
 use nutversion::VERSION;
 use std::alloc::Global;
 use std::fs::File;
@@ -24,9 +24,6 @@ use std::io::{Error, ErrorKind, Write};
 use std::net::SocketAddr;
 use std::time::{SystemTime, UNIX_EPOCH};
 use std::{env, io};
-
-/// The sockets of the system, whose events may be written to a file.
-pub type AllSockets<'a> = Recorded<MioSockets<'a, HostRuntime, File>, CountedWriter<File>>;
 
 /// `upsd serve`: warns of what is dangerous in the files, and serves until the loop can't go on.
 ///
@@ -91,37 +88,34 @@ fn serve<'a>(
     let ids = ids_in(rt, files.ids)?;
     let address = service.address;
     match MioSockets::new(rt, rt.alloc(), address, server, ids) {
-        Ok(sockets) => match recorder_in(rt, server, files.to_record, service.record_limit) {
-            Ok(recorder) => {
-                let mut sockets = Recorded { sockets, recorder };
-                serve_over(rt, server, &mut sockets, files, service)
-            }
-            Err(ending) => Err(ending),
+        Ok(mut sockets) => match files.to_record {
+            Some(path) => match recorder_in(rt, server, path, service.record_limit) {
+                Ok(recorder) => {
+                    let mut sockets = Recorded { sockets, recorder };
+                    serve_over(rt, server, &mut sockets, files, service)
+                }
+                Err(ending) => Err(ending),
+            },
+            None => serve_over(rt, server, &mut sockets, files, service),
         },
         Err(error) => Err(ending_of_listening(address, &error)),
     }
 }
 
 /// A recorder of at most so many MiB in the new file of this path, which begins with a comment.
-/// Without a path it records nothing.
 fn recorder_in<'a>(
     rt: &HostRuntime,
     server: &Server,
-    path: Option<&'a str>,
+    path: &'a str,
     mebibytes: u64,
 ) -> Result<Recorder<CountedWriter<File>>, Ending<'a>>
-    ensures { IfErr result (λ ending. (ending ≡ Ending.Memory)
-        ⊎ ((path : _) × CantBeMade path ending)) }
+    ensures { IfErr result (λ ending. (ending ≡ Ending.Memory) ⊎ CantBeMade path.entry ending) }
 {
     let list = server.ups().share().map_err(|_| Ending::Memory)?;
-    let mut writer = None;
-    if let Some(path) = path {
-        let mut file = create(rt, path)?;
-        let _ = write_head(rt, &mut file);
-        writer = Some(CountedWriter::new(file));
-    }
+    let mut file = create(rt, path)?;
+    let _ = write_head(rt, &mut file);
     let limit = mebibytes.saturating_mul(1 << 20);
-    Ok(Recorder::new(rt.alloc(), list, writer, limit))
+    Ok(Recorder::new(rt.alloc(), list, CountedWriter::new(file), limit))
 }
 
 /// Writes the first line of a record: the version, the second since 1970, and the words of the
@@ -139,10 +133,10 @@ fn write_head(rt: &HostRuntime, file: &mut File) -> io::Result<()> {
 }
 
 /// Writes the warnings, prints the address, and serves from then on.
-fn serve_over<'a>(
+fn serve_over<'a, S: Served<File>>(
     rt: &HostRuntime,
     server: &mut Server,
-    sockets: &mut AllSockets<'_>,
+    sockets: &mut S,
     files: Files<'a>,
     service: Service,
 ) -> Result<(), Ending<'a>>
@@ -151,7 +145,7 @@ fn serve_over<'a>(
     let address = service.address;
     let mut journal = Journal::new(rt.alloc(), service).map_err(|_| Ending::Memory)?;
     warn(rt, files, server.ups(), server.users());
-    match tell_bound(rt, address, sockets.sockets.local_addr()) {
+    match tell_bound(rt, address, sockets.shown().0.local_addr()) {
         Ok(()) => go_round(rt, server, sockets, &mut journal),
         Err(ending) => Err(ending),
     }
@@ -174,18 +168,16 @@ fn tell_bound<'a>(
 
 /// Goes round the peers up to the first fault of the loop, and writes what is new. Whatever the
 /// sockets do, it is one run of the server.
-fn go_round<'a>(
+fn go_round<'a, S: Served<File>>(
     rt: &HostRuntime,
     server: &mut Server,
-    sockets: &mut AllSockets<'_>,
+    sockets: &mut S,
     journal: &mut Journal,
 ) -> Result<(), Ending<'a>>
-    ensures turns { let calls = ⟦<AllSockets<'static> as Sockets>⟧.calls in
-        let failures = ⟦<AllSockets<'static> as Sockets>⟧.failures in
-        MatchResult result
-        (λ done. TurnsUpTo calls failures
+    ensures turns { MatchResult result
+        (λ done. TurnsUpTo S.calls S.failures
         server.old.state sockets.old (Ok done) server.new.state sockets.new)
-        (λ ending. (fault : LoopFault) × (ending ≡ Ending.Loop fault) × TurnsUpTo calls failures
+        (λ ending. (fault : LoopFault) × (ending ≡ Ending.Loop fault) × TurnsUpTo S.calls S.failures
         server.old.state sockets.old (Err fault) server.new.state sockets.new) }
     ensures run { IsOneRun server.old.state server.new.state }
 {

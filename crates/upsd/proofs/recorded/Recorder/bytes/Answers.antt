@@ -1,15 +1,16 @@
-use Rattle.std.proofs.Common.{◌≡◌, ◌∙◌, IfSome, string_bytes, sym, subst}
+use Rattle.std.proofs.Common.{◌≡◌, ◌++◌, refl, string_bytes, subst}
 use Rattle.std.specs.Prelude.{OnSome}
 use Rattle.nutloop.specs.Sockets.{came_from}
 use Rattle.nutreplay.specs.Written.{IsEventOf}
-use Rattle.upsd.proofs.Writing.{goes_on, is_off, came, line_came}
+use Rattle.upsd.proofs.Writing.{added, is_off, came, line_came}
 use Rattle.upsd.proofs.recorded.Recorder.bytes.Goals as goal
 
-pub returns-then-is_on : goal.returns-then-is_on
-returns-then-is_on g c =
-    c.write.ensures (came_from c.args.from c.args.bytes.now) (goes_on c.args.self.now (sym c.is_on.ensures ∙ c.if-is_on.true))
-    (subst (λ text. IfSome c.line_of_bytes-line.result (λ line. string_bytes line ≡ text)) (line_came c.args.self.now.list c.args.from c.args.bytes.now) c.line_of_bytes-line.ensures.line)
-    (subst (λ event. OnSome c.line_of_bytes-line.result (IsEventOf c.args.self.now.list event)) (came c.args.from c.args.bytes.now) c.line_of_bytes-line.ensures.lawful)
+pub returns-then-not-self : goal.returns-then-not-self
+returns-then-not-self g c =
+    added g.W.Sink.contents c.args.self.now _ (came_from c.args.from c.args.bytes.now) c.add_line_of_bytes-added.result refl refl c.is_none-self.ensures c.if-not-self.true
+    (subst (λ line. OnSome c.add_line_of_bytes-added.result (string_bytes c.add_line_of_bytes-added.new.text ≡ string_bytes c.args.self.now.waiting ++ line)) (line_came c.args.self.now.list c.args.from c.args.bytes.now)
+    c.add_line_of_bytes-added.ensures.line)
+    (subst (λ event. OnSome c.add_line_of_bytes-added.result (IsEventOf c.args.self.now.list event)) (came c.args.from c.args.bytes.now) c.add_line_of_bytes-added.ensures.lawful)
 
-pub returns-else-is_on : goal.returns-else-is_on
-returns-else-is_on g c = is_off g.W.Sink.contents c.args.self.now (came_from c.args.from c.args.bytes.now) (sym c.is_on.ensures ∙ c.if-is_on.false)
+pub returns-else-not-self : goal.returns-else-not-self
+returns-else-not-self g c = is_off g.W.Sink.contents c.args.self.now (came_from c.args.from c.args.bytes.now) c.if-not-self.false

@@ -1,9 +1,10 @@
-use Rattle.std.proofs.Common.{◌∙◌, sym}
-use Rattle.upsd.proofs.Writing.{goes_on, is_off}
+use Rattle.std.proofs.Common.{refl}
+use Rattle.upsd.proofs.Writing.{added, is_off}
 use Rattle.upsd.proofs.recorded.Recorder.event.Goals as goal
 
-pub returns-then-is_on : goal.returns-then-is_on
-returns-then-is_on g c = c.write.ensures c.args.event.now (goes_on c.args.self.now (sym c.is_on.ensures ∙ c.if-is_on.true)) c.line_of-line.ensures.line c.line_of-line.ensures.lawful
+pub returns-then-not-self : goal.returns-then-not-self
+returns-then-not-self g c =
+    added g.W.Sink.contents c.args.self.now _ c.args.event.now c.add_line.result refl refl c.is_none-self.ensures c.if-not-self.true c.add_line.ensures.line c.add_line.ensures.lawful
 
-pub returns-else-is_on : goal.returns-else-is_on
-returns-else-is_on g c = is_off g.W.Sink.contents c.args.self.now c.args.event.now (sym c.is_on.ensures ∙ c.if-is_on.false)
+pub returns-else-not-self : goal.returns-else-not-self
+returns-else-not-self g c = is_off g.W.Sink.contents c.args.self.now c.args.event.now c.if-not-self.false
