@@ -11,7 +11,7 @@ use Rattle.nutreplay.specs.Script.{sent}
 use Rattle.nutreplay.specs.Written.{IsReadAs, IsEventOf, line_of, line_of_bytes}
 use Rattle.nutreplay.proofs.ReadBack.{what_is_written_is_read_back}
 use Rattle.upsd.specs.declared.recorded.Recorder.{Recorder}
-use Rattle.upsd.specs.Recorded.{next_line, HasEnded, GoesOn, IsRecordOf, Records, RecordsNext}
+use Rattle.upsd.specs.Recorded.{next_line, HasEnded, GoesOn, IsRecordOf, RecordsNext}
 
 -- One more event where the record has ended.
 later : (list : List Ups) (part : List ℕ) (lost : List Event) (e : Event) → IsBeginning part (next_line list lost) → IsBeginning part (next_line list (lost ++ e ∷ []))

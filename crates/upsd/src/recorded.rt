@@ -1,8 +1,8 @@
 //! Sockets that write down each event of the server, as a line of a script that `replay` reads.
-ghost use Rattle.std.specs.Prelude.{◌≡◌, false, is_some, IfSome, OnSome, List, ℕ, Some, [], string_bytes};
+ghost use Rattle.std.specs.Prelude.{◌≡◌, is_some, List, ℕ, Some, []};
 ghost use Rattle.nutcore.specs.declared.event.Event.{Event};
 ghost use Rattle.nutloop.specs.Sockets.{Continues, came_from};
-ghost use Rattle.nutreplay.specs.Written.{IsEventOf, IsReadAs, line_of};
+ghost use Rattle.nutreplay.specs.Written.{IsReadAs};
 ghost use Rattle.upsd.specs.Recorded.{Leaves, Records, RecordsNext, recorded};
 
 use nutcore::{ClientId, Event, Peer, Server, UpsList};
