@@ -180,8 +180,8 @@ def main(words):
                 kept = begin(crate)
                 parts = [[it] for it in rounds] if glob.glob(f"{kept}/*") else [rounds]
                 ready += [(crate, it, begin(crate) if number else kept) for number, it in enumerate(parts)]
-            # The greatest crates are the last ones that are built: their rounds go first.
-            ready.sort(key=lambda it: -it[0].count(rb"\n"))
+            # What begins from nothing takes longest, and the greatest crates are the last ones that are built: they go first.
+            ready.sort(key=lambda it: (bool(os.listdir(it[2])), -it[0].count(rb"\n")))
             while ready and len(running) < rt.processors():
                 running.add(pool.submit(judge, *ready.pop(0)))
             done, running = futures.wait(running, 1, futures.FIRST_COMPLETED)
