@@ -119,13 +119,13 @@ def rounds_of(edits):
     return rounds
 
 
-def judge(crate, rounds, kept):
-    """Judges rounds, one after another, over what that folder keeps, which then goes. Returns what is said of each edit
-    that is refused, and the names of those that aren't."""
+def judge(crate, edits, kept):
+    """Judges a crate's edits over what that folder keeps, which then goes. Returns what is said of each edit that is refused,
+    and the names of those that aren't."""
     if not all(is_there(it) for it in crate.below()):
         return [], [f"{crate.name} (a library below it isn't built, or has changed since)"]
-    edits, judged = sum(rounds, []), {}
-    for some in rounds:
+    judged = {}
+    for some in rounds_of(edits):
         judged |= in_round(crate, [it for it in some if it.function and not it.why], kept)
     shutil.rmtree(kept)
     said = [f"{it.name}: refused: {why[:160]}" for it, why in judged.items()]
@@ -154,13 +154,18 @@ def is_ready(crate, said):
     return {it.name for it in crate.below()} <= set(re.findall(r"^rt: (\S+) (?:proved|is kept)", said, re.M))
 
 
+def keep(source, target):
+    """Links what is proved, which a check replaces and never changes, and copies all else."""
+    (os.link if source.endswith(".oantt") else shutil.copy2)(source, target)
+
+
 def begin(crate):
     """Returns a new folder, with what was proved of the crate."""
     kept = tempfile.mkdtemp(prefix="edits-kept-")
     for seed in seeds_of(crate)[:1]:
-        # It may go meanwhile. A check replaces files, and changes none.
+        # It may go meanwhile.
         with contextlib.suppress(OSError, shutil.Error):
-            shutil.copytree(seed, kept, copy_function=os.link, dirs_exist_ok=True)
+            shutil.copytree(seed, kept, copy_function=keep, dirs_exist_ok=True)
     return kept
 
 
@@ -168,22 +173,15 @@ def main(words):
     rtlib.guarded()
     log, names = (words[1], []) if words[:1] == ["--beside"] else (None, words)
     left = [it for it in rtlib.crates_below(os.getcwd()) if edits_of(it) and (not names or it.name in names)]
-    ready, running, refused, failed = [], set(), 0, []
+    running, refused, failed = set(), 0, []
     with futures.ThreadPoolExecutor(rt.processors()) as pool:
-        while left or ready or running:
+        while left or running:
             log_said = log and rtlib.text_of(log) or ""
             for crate in [it for it in left if not log or is_ready(it, log_said)]:
                 left.remove(crate)
-                rounds = rounds_of(edits_of(crate))
-                print(f"edits: {crate.name}: {sum(map(len, rounds))} edits in {len(rounds)} rounds", flush=True)
-                # With nothing that was proved to begin with, each round begins with what the one before it proved.
-                kept = begin(crate)
-                parts = [[it] for it in rounds] if glob.glob(f"{kept}/*") else [rounds]
-                ready += [(crate, it, begin(crate) if number else kept) for number, it in enumerate(parts)]
-            # What begins from nothing takes longest, and the greatest crates are the last ones that are built: they go first.
-            ready.sort(key=lambda it: (bool(os.listdir(it[2])), -it[0].count(rb"\n")))
-            while ready and len(running) < rt.processors():
-                running.add(pool.submit(judge, *ready.pop(0)))
+                edits = edits_of(crate)
+                print(f"edits: {crate.name}: {len(edits)} edits in {len(rounds_of(edits))} rounds", flush=True)
+                running.add(pool.submit(judge, crate, edits, begin(crate)))
             done, running = futures.wait(running, 1, futures.FIRST_COMPLETED)
             for said, stayed in (it.result() for it in done):
                 for line in said:

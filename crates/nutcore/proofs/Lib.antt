@@ -29,7 +29,6 @@ mod Marks
 mod ShutdownMarks
 mod Lasting
 mod Endings
-mod Waiting
 mod Alone
 mod SessionMarks
 mod LoginCount
@@ -47,7 +46,6 @@ mod NotedLogins
 mod Taking
 mod TakingAmongOthers
 mod NotStuck
-mod Totals
 mod Listed
 mod DriverRuns
 mod FreshRuns

@@ -4,8 +4,7 @@ use Rattle.std.specs.Prelude.{length, Option, Some, Ok, All, codes, max, nat_eq}
 use Rattle.std.specs.List.{starts_with}
 use Rattle.nutdriver.specs.declared.line.DriverLine.{DriverLine}
 use Rattle.nutdriver.specs.Report.{connected_report}
-use Rattle.nutdriver.specs.Additions.{changes}
-use Rattle.nutdriver.specs.LastLine.{TheLastLineDecides}
+use Rattle.nutdriver.specs.LastLine.{changes, TheLastLineDecides}
 use Rattle.nutdriver.specs.Sound.{IsSoundTree}
 use Rattle.nutusers.specs.declared.ups_list.UpsId.{UpsId}
 use Rattle.nutanswer.specs.declared.command.Command.{Command}

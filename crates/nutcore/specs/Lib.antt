@@ -15,13 +15,11 @@ pub mod Isolation
 pub mod Happenings
 pub mod Sound
 pub mod NotedRuns
-pub mod Waiting
 pub mod Alone
 pub mod Bounded
 pub mod Taking
 pub mod TakingSome
 pub mod NotStuck
-pub mod Totals
 pub mod Listed
 pub mod DriverHistory
 pub mod DriverRuns
@@ -39,4 +37,3 @@ pub mod AnswersApart
 pub mod Limits
 pub mod Calls
 pub mod Promises
-pub mod Examples

@@ -3,11 +3,9 @@ ghost use Rattle.nutcore.specs.Headline.{WhatWasSentAndIsOwedIsTheAnswers, WhatW
 ghost use Rattle.nutcore.specs.ByRight.{AForcedShutdownReachesEverybody, ALoginIsByRight, CredentialsAreGivenByLines, WhatIsCountedIsWhoIsThere};
 ghost use Rattle.nutcore.specs.Lasting.{WhatNeverGoesBack};
 ghost use Rattle.nutcore.specs.Endings.{WhoIsOverIsAskedNoMore, IdsThatAreGivenRise, ATickTouchesNoSession, AnOpeningTouchesNoOther};
-ghost use Rattle.nutcore.specs.Waiting.{ALineIsAnswered};
 ghost use Rattle.nutcore.specs.Alone.{OneLineIsAnswered};
 ghost use Rattle.nutcore.specs.OrdersByRight.{EachOrderIsByRight, TheOrdersToldAreThoseOfTheLines};
 ghost use Rattle.nutcore.specs.TellingLines.{EachTellingIsAWholeLine};
-ghost use Rattle.nutcore.specs.Examples.{TwoVariables, EmptyListing, TakenInFour, LongestLine, ThreeLines, EscapedValue, FaultyLines, CasesAndFaults, NotConnected, Described, PipelinedGet, CutLines, ToldInPieces, CountedByBothNames};
 ghost use Rattle.nutcore.specs.Isolation.{AClientTouchesNoOther, ADriverTouchesNoOther, ARefusedEventChangesNothing, ARefusedEventCostsNothing};
 ghost use Rattle.nutcore.specs.Happenings.{AnswersComeOfWhatHappens, AQuietTakeChangesWhatIsOwedAlone, AReplyComesOfWhatIsSeen};
 ghost use Rattle.nutcore.specs.Limits.{Limits};
@@ -16,7 +14,6 @@ ghost use Rattle.nutcore.specs.Notes.{NoNoteIsCut};
 ghost use Rattle.nutcore.specs.NotedRuns.{TheNotesOfARunAreWhatChanged};
 ghost use Rattle.nutcore.specs.Taking.{WhoTakesGetsEverything, WhoTakesAmongOthersGetsEverything};
 ghost use Rattle.nutcore.specs.NotStuck.{WhoIsOwedLittleHasRoom, WhoEndsIsFinished};
-ghost use Rattle.nutcore.specs.Totals.{AServerIsBoundedInAll};
 ghost use Rattle.nutcore.specs.TakingSome.{WhoTakesSomeGetsEverything};
 ghost use Rattle.nutcore.specs.DriverHistory.{WhatADriverToldIsExecuted};
 ghost use Rattle.nutcore.specs.DriverRuns.{WhatCameSinceConnectingIsExecuted, ALostDriversLinesAreABeginning, WhichLinesAreRefused, RefusedLinesAreCounted, ANewServerCountsAllRefusedLines};
@@ -101,13 +98,6 @@ pub fn credentials_are_given_by_lines()
 #[tactic(auto, using(crate::proofs::LoginCount::who_is_there))]
 pub fn what_is_counted_is_who_is_there()
     ensures { WhatIsCountedIsWhoIsThere }
-{}
-
-/// A new session holds and is owed nothing. If it sends one line and memory is there, it is owed
-/// exactly the reply.
-#[tactic(auto, using(crate::proofs::Waiting::line_answered))]
-pub fn a_line_is_answered()
-    ensures { ALineIsAnswered }
 {}
 
 /// A client that sent only one line, and is owed nothing more, took exactly the reply, whatever
@@ -308,12 +298,13 @@ pub fn the_notes_of_a_run_are_what_changed()
     every_server_is_sound();
 }
 
-/// With memory there, a client that takes all that it is offered is owed nothing after a known
-/// number of takes, whatever others do.
-#[tactic(auto, using(crate::proofs::Taking::gets_everything, crate::proofs::TakingAmongOthers::among_others))]
+/// With memory there, a client that takes all that it is offered, or only some bytes at a time, is
+/// owed nothing after a known number of takes, whatever others do.
+#[tactic(auto, using(crate::proofs::Taking::gets_everything, crate::proofs::TakingAmongOthers::among_others, crate::proofs::TakingAmongOthers::takes_some))]
 pub fn who_takes_gets_everything()
     ensures alone { WhoTakesGetsEverything }
     ensures among_others { WhoTakesAmongOthersGetsEverything }
+    ensures some { WhoTakesSomeGetsEverything }
 {}
 
 /// Unless memory was refused, a client that is owed at most 4,096 bytes has room for input. An
@@ -321,17 +312,6 @@ pub fn who_takes_gets_everything()
 pub fn nobody_is_stuck()
     ensures room { WhoIsOwedLittleHasRoom }
     ensures finished { WhoEndsIsFinished }
-{}
-
-/// All sessions together hold at most 64 times 2,048 bytes and are offered at most 64 times 8,192.
-/// At most 96 versions of trees are alive.
-pub fn a_server_is_bounded_in_all()
-    ensures { AServerIsBoundedInAll }
-{}
-
-/// The same if it takes only some bytes at a time, from 1 to 8,192.
-pub fn who_takes_some_gets_everything()
-    ensures { WhoTakesSomeGetsEverything }
 {}
 
 /// A server, an event and its outcome have one next server and, unless memory is refused, one
@@ -384,22 +364,4 @@ pub fn a_refused_event_changes_nothing()
 #[tactic(auto, using(crate::proofs::Isolation::refused_free))]
 pub fn a_refused_event_costs_nothing()
     ensures { ARefusedEventCostsNothing }
-{}
-
-/// The sessions of `specs/Examples.antt`, worked out by hand, are what the definitions compute.
-pub fn sessions_worked_by_hand()
-    ensures two_variables { TwoVariables }
-    ensures empty_listing { EmptyListing }
-    ensures taken_in_four { TakenInFour }
-    ensures longest_line { LongestLine }
-    ensures three_lines { ThreeLines }
-    ensures escaped_value { EscapedValue }
-    ensures faulty_lines { FaultyLines }
-    ensures cases_and_faults { CasesAndFaults }
-    ensures not_connected { NotConnected }
-    ensures described { Described }
-    ensures pipelined_get { PipelinedGet }
-    ensures cut_lines { CutLines }
-    ensures told_in_pieces { ToldInPieces }
-    ensures counted_by_both_names { CountedByBothNames }
 {}

@@ -1,6 +1,6 @@
 -- The last line on a variable decides it.
-use Rattle.std.proofs.Common.{◌≡◌, ℕ, Bool, true, false, cond, List, [], ◌∷◌, ◌++◌, Option, Some, None, refl, sym, ap, subst, ◌∙◌, append-nil, append_assoc, length}
-use Rattle.std.specs.Prelude.{nat_le, Result, Ok, Err, IfOk, IfSome, if◌then◌else◌, option_map}
+use Rattle.std.proofs.Common.{◌≡◌, ℕ, Bool, true, false, cond, List, [], ◌∷◌, ◌++◌, Option, Some, None, refl, sym, ap, subst, ◌∙◌, append-nil, append_assoc, length, true≢false}
+use Rattle.std.specs.Prelude.{◌≢◌, nat_le, Result, Ok, Err, IfOk, IfSome, if◌then◌else◌, option_map}
 use Rattle.std.specs.List.{list_any}
 use Rattle.std.specs.Str.{bytes_eq}
 use Rattle.std.proofs.lemmas.Bool.{or_parts}
@@ -22,10 +22,21 @@ use Rattle.nutdriver.specs.DriverLine.{read_driver_line}
 use Rattle.nutdriver.specs.DriverStep.{driver_step, is_change, put_back, on_variable, if_there, set_info, delete_info}
 use Rattle.nutdriver.specs.Report.{connected_report, after_step, after_reading, after_line, Heard, after_heard}
 use Rattle.nutdriver.specs.Sound.{IsSoundTree, EachLineKeepsTheTreeSound}
-use Rattle.nutdriver.specs.Additions.{change_of, changes}
-use Rattle.nutdriver.specs.LastLine.{value_of, decides, NoneDecides, TheLastLineOnAVariableDecidesIt}
-use Rattle.nutdriver.proofs.AddingOrder.{ChangeLaws, equal_by, apart_by}
+use Rattle.nutdriver.specs.LastLine.{change_of, changes, value_of, decides, NoneDecides, TheLastLineOnAVariableDecidesIt}
 use Rattle.nutdriver.proofs.SoundTrees.{empty_sound}
+
+-- nutmap's laws of a change
+pub record ChangeLaws : Type 0 where
+  pub inserted : (map : List (List ℕ × VariableState)) (name : List ℕ) (v : VariableState) → HasRisingKeys byte_order map → ChangesOneKey byte_order map (insert_entry byte_order map name v) name (Some v)
+  pub removed : (map : List (List ℕ × VariableState)) (name : List ℕ) → HasRisingKeys byte_order map → ChangesOneKey byte_order map (remove_entry (is_at (byte_order name)) map) name None
+
+equal_by : (o : Ordering) → is_eq o ≡ true → o ≡ Equal
+equal_by Less h = absurd (cc)
+equal_by Equal h = refl
+equal_by Greater h = absurd (cc)
+
+apart_by : (o : Ordering) → is_eq o ≡ false → o ≢ Equal
+apart_by o h = λ same. true≢false (sym (ap is_eq same) ∙ h)
 
 -- what a line that changes the tree does to the value of a name
 abbrev after_one : List ℕ → Option (List ℕ) → DriverLine → Option (List ℕ)

@@ -4,6 +4,5 @@ pub mod LawfulLines
 pub mod SoundTrees
 pub mod LineLemmas
 pub mod ToldNumbers
-pub mod AddingOrder
 mod LastLine
 pub mod PublicLaws

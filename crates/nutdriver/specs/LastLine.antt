@@ -1,13 +1,28 @@
 -- The last accepted line on a variable decides its value.
-use Rattle.std.specs.Prelude.{◌≡◌, ℕ, Bool, false, List, ◌∷◌, ◌++◌, Option, Some, None}
-use Rattle.std.specs.Prelude.{option_map}
+use Rattle.std.specs.Prelude.{◌≡◌, ℕ, Bool, false, List, [], ◌∷◌, ◌++◌, Option, Some, None}
+use Rattle.std.specs.Prelude.{Result, Ok, Err, if◌then◌else◌, option_map}
 use Rattle.std.specs.List.{list_any}
 use Rattle.std.specs.Str.{bytes_eq}
 use Rattle.nutdriver.specs.declared.line.DriverLine.{DriverLine}
 use Rattle.nutdriver.specs.declared.line.DriverLine.TheVariants.{SetInfo, DelInfo}
+use Rattle.nutdriver.specs.declared.fault.DriverFault.{DriverFault}
+use Rattle.nutdriver.specs.declared.report.Report.{Report}
 use Rattle.nutdriver.specs.Tree.{TreeState, variable_at}
-use Rattle.nutdriver.specs.Report.{connected_report, Heard, after_heard}
-use Rattle.nutdriver.specs.Additions.{changes}
+use Rattle.nutdriver.specs.DriverLine.{read_driver_line}
+use Rattle.nutdriver.specs.DriverStep.{changes_tree}
+use Rattle.nutdriver.specs.Report.{connected_report, after_line, Heard, after_heard}
+
+-- The line, where it is read and changes the tree.
+abbrev pub change_of : TreeState → Result DriverLine DriverFault → List DriverLine
+change_of tree (Ok line) = if changes_tree tree line then line ∷ [] else []
+change_of tree (Err fault) = []
+
+-- Those of the lines that change the tree: none that is refused, or adds what is there.
+abbrev pub changes : Report → List Heard → List DriverLine
+changes report [] = []
+changes report (x ∷ lines) =
+    change_of report.tree (read_driver_line x.line)
+    ++ changes (after_line x.moment report x.line).0 lines
 
 -- The value of the variable of this name, where it is there.
 abbrev pub value_of : TreeState → List ℕ → Option (List ℕ)

@@ -12,5 +12,4 @@ pub mod DriverStep
 pub mod Promises
 pub mod Report
 pub mod Sound
-pub mod Additions
 pub mod LastLine
