@@ -1,14 +1,17 @@
 //! Turns of the loop over sockets in memory, with two clients and a driver: once as they are, and then once for each call
-//! of the sockets, which fails. It prints a line for each, and one of ids that are handed in.
+//! of the sockets, which fails. It prints a line for each, and one of ids that are handed in. Then a driver, the server and
+//! upsc run in one process.
 #![tactic(auto)]
 
 mod ids;
+mod one_process;
 mod rows;
 mod run;
 mod scripted;
 mod seen;
 
 use crate::ids::tell_ids;
+use crate::one_process::run_in_one_process;
 use crate::rows::{Row, SU, rows};
 use crate::run::{Failing, Part, Ran, run};
 use crate::seen::{bytes_taken, other_calls, shuts};
@@ -18,7 +21,8 @@ use nutloop::Ready;
 
 fn main(rt: HostRuntime) -> Result<()> {
     let rows = rows(rt.alloc())?;
-    run_all(&rt, &rows)
+    run_all(&rt, &rows)?;
+    run_in_one_process(&rt)
 }
 
 /// The run in which nothing fails, and then one for each call.

@@ -1,24 +1,24 @@
-//! A driver, the server and upsc in one process and one thread, over the system's sockets: the driver over a Unix socket,
-//! and the client over TCP at a port that the system gives. It prints what upsc prints, and whether that took few turns.
-#![tactic(auto)]
+//! A driver, the server and upsc in one thread, over the system's sockets: the driver over a Unix socket, and the client
+//! over TCP at a port that the system gives. It prints what upsc prints, and whether that took few turns.
 
 mod client;
 mod driver;
 mod served;
 
-use crate::client::print_variables;
-use crate::driver::Driver;
-use crate::served::{Served, TURN_LIMIT};
 use anyhow::{Error, Result};
+use client::print_variables;
+use driver::Driver;
+use served::{Served, TURN_LIMIT};
 use std::fs;
 
 /// The driver's socket, in the folder in which the program runs.
 const SOCKET: &str = "driver.socket";
 
-fn main(rt: HostRuntime) -> Result<()> {
-    remove_socket(&rt);
-    let outcome = run(&rt);
-    remove_socket(&rt);
+/// Runs all three, and removes the driver's socket before and after.
+pub fn run_in_one_process(rt: &HostRuntime) -> Result<()> {
+    remove_socket(rt);
+    let outcome = run(rt);
+    remove_socket(rt);
     outcome
 }
 

@@ -1,5 +1,5 @@
 //! upsc's end: while it waits for the server, the server has its turns.
-use crate::served::{Served, TURN_LIMIT};
+use super::served::{Served, TURN_LIMIT};
 use anyhow::Result;
 use nutclient::{Given, Job, connect, run};
 use nutio::{CountedReader, CountedWriter};

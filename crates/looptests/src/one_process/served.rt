@@ -1,5 +1,5 @@
 //! The server over the system's sockets, beside its driver.
-use crate::driver::Driver;
+use super::driver::Driver;
 use anyhow::{Error, Result};
 use nutcore::{Descriptions, MAX_AGE_DEFAULT, MaxAge, Server, UpsList, Users};
 use nutloop::{MioSockets, turn};
