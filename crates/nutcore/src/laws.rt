@@ -300,7 +300,7 @@ pub fn the_notes_of_a_run_are_what_changed()
 
 /// With memory there, a client that takes all that it is offered, or only some bytes at a time, is
 /// owed nothing after a known number of takes, whatever others do.
-#[tactic(auto, using(crate::proofs::Taking::gets_everything, crate::proofs::TakingAmongOthers::among_others, crate::proofs::TakingAmongOthers::takes_some))]
+#[tactic(auto, using(crate::proofs::Taking::gets_everything, crate::proofs::TakingAmongOthers::among_others))]
 pub fn who_takes_gets_everything()
     ensures alone { WhoTakesGetsEverything }
     ensures among_others { WhoTakesAmongOthersGetsEverything }
