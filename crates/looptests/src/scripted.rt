@@ -99,11 +99,11 @@ impl Sockets for Scripted {
 
     ghost failures = { λ s. s.failures };
 
-    fn is_busy(&self, _server: &Server) -> bool {
-        false
+    fn known(&mut self, _server: &Server) -> Option<Ready> {
+        None
     }
 
-    fn ready(&mut self, _server: &Server) -> Result<Ready, Broken> {
+    fn look(&mut self, _server: &Server) -> Result<Ready, Broken> {
         let Act::Ready(ready) = self.next() else {
             return Err(self.fail());
         };

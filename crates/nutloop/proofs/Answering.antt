@@ -1,4 +1,4 @@
--- What `ready` answers, by the visits that it makes.
+-- What `known` and `look` answer, by the visits that they make.
 use Rattle.std.proofs.Common.{◌≡◌, ◌∙◌, Bool, true, false, Option, Some, None, refl, inl, inr, subst, sym}
 use Rattle.std.specs.Prelude.{if◌then◌else◌, unwrap_or}
 use Rattle.nutcore.specs.Server.{ServerState}
@@ -6,7 +6,7 @@ use Rattle.nutloop.specs.declared.over_mio.MioSockets.{MioSockets}
 use Rattle.nutloop.specs.declared.over_mio.pass.Pass.{Pass}
 use Rattle.nutloop.specs.declared.sockets.Ready.{Ready}
 use Rattle.nutloop.specs.declared.sockets.Ready.TheVariants.{Nothing}
-use Rattle.nutloop.specs.OverMio.{AnswersReady, GivesAfterLook, GivesTurn, may_at}
+use Rattle.nutloop.specs.OverMio.{AnswersKnown, AnswersLook, GivesTurn, may_at}
 use Rattle.nutloop.specs.Pass.{IsOver, again, fresh, goes_on}
 
 -- A pass that is the next one without a look.
@@ -14,23 +14,27 @@ pub going_on : (goes_on : Bool) (pass next : Pass) → Some next ≡ (if goes_on
 going_on true pass next h = (refl, cc)
 going_on false pass next h = (cc, cc)
 
--- The first turn of the next pass, which begins without a look.
-pub of_next_pass : {R F : Type 0} (s : ServerState) (old mid new : MioSockets R F) (next : Pass) (answer : Ready)
+pub is_over : {R F : Type 0} (s : ServerState) (old : MioSockets R F) (new : Pass) → IsOver (may_at s old) old.pass new → IsOver (may_at s old) old.pass old.pass
+is_over s old new over = subst (λ (p : Pass). IsOver (may_at s old) old.pass p) over.same over
+
+-- The pass is over: what follows it without a look is the first turn of the next one.
+pub of_next_pass : {R F : Type 0} (s : ServerState) (old mid new : MioSockets R F) (next : Pass) (answer : Option Ready)
     → mid ≡ record old { pass = mid.pass; here = mid.here } → IsOver (may_at s old) old.pass mid.pass
-    → goes_on mid.pass ≡ true → next ≡ again mid.pass → GivesTurn s mid next (Some answer) new.pass
-    → AnswersReady s old answer new
-of_next_pass {R} {F} s old mid new next answer same over on is gives =
+    → goes_on mid.pass ≡ true → next ≡ again mid.pass → GivesTurn s mid next answer new.pass
+    → AnswersKnown s old answer new
+of_next_pass {R} {F} s old mid new next None same over on is gives = is_over s old mid.pass over
+of_next_pass {R} {F} s old mid new next (Some answer) same over on is gives =
     let from_again : GivesTurn s mid (again mid.pass) (Some answer) new.pass =
     subst (λ (p : Pass). GivesTurn s mid p (Some answer) new.pass) is gives in
     let turn : GivesTurn s old (again mid.pass) (Some answer) new.pass =
     subst (λ (m : MioSockets R F). GivesTurn s m (again mid.pass) (Some answer) new.pass) same from_again in
-    inl (turn.0, turn.1, inr (mid.pass, over, on, turn.2))
+    (turn.0, turn.1, inr (mid.pass, over, on, turn.2))
 
 -- What the first visit after a look gives.
 pub after_look : {R F : Type 0} (s : ServerState) (looked new : MioSockets R F) (answer : Option Ready) (ready : Ready)
     → looked.pass ≡ fresh → new ≡ record looked { pass = new.pass; here = new.here }
     → GivesTurn s looked looked.pass answer new.pass → ready ≡ unwrap_or answer Nothing
-    → GivesAfterLook s new ready new.pass
+    → AnswersLook s ready new
 after_look {R} {F} s looked new (Some turn) ready is same gives told =
     let at_fresh : GivesTurn s looked fresh (Some turn) new.pass =
     subst (λ (p : Pass). GivesTurn s looked p (Some turn) new.pass) is gives in

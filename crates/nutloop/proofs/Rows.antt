@@ -26,7 +26,7 @@ use Rattle.nutloop.specs.declared.sockets.Ready.TheVariants.{Read}
 use Rattle.nutloop.specs.declared.sockets.Call.{Call}
 use Rattle.nutloop.specs.declared.sockets.Call.TheVariants.{Readied, Happens}
 use Rattle.nutloop.specs.declared.turns.TheConstants.{DRIVER_READ_LIMIT}
-use Rattle.nutloop.specs.Sockets.{Told, event_in, events_in, GrowsBy, Grows}
+use Rattle.nutloop.specs.Sockets.{Told, event_in, events_in, GrowsBy, Grows, Logs}
 use Rattle.nutcore.specs.DriverOrders.{owed_to_driver}
 use Rattle.nutloop.specs.Turn.{Ask, nobody, reads, writes, Answer, unasked, ask, read_of, write_of, MayAnswer, answered, row_events, end_of, calls_behind, calls_behind_all, Does, failures_by, IsRow}
 
@@ -52,6 +52,11 @@ grows_joins a b c x y h k = (
   λ events recorded. subst c.records (append_assoc events (events_in x) (events_in y) ∙ ap (λ more. events ++ more) (sym (flat_map-append event_in x y)))
       (k.1 (events ++ events_in x) (h.1 events recorded)),
 )
+
+-- A call after one of which nothing is told.
+pub logs_behind : {T E : Type 0} (a b c : Told) (call : T → Call) (result : Result T E) → Grows a b [] → Logs b c call result → Logs a c call result
+logs_behind a b c call (Ok x) h k = grows_joins a b c [] (call x ∷ []) h k
+logs_behind a b c call (Err e) h k = grows_joins a b c [] [] h k
 
 -- One event is told and done, and then the call after it is made.
 pub does_one : {S : Type 0} (calls : S → Told) (failures : S → ℕ) (e : Event) (o : Outcome) (old : ServerState) (sockets middle : S) (new : ServerState) (after : S)

@@ -29,6 +29,12 @@ Turns {S} calls failures old sockets (r ∷ rs) new after =
     × ((middle : S) × TurnGives calls failures old sockets r mid middle
     × Turns calls failures mid middle rs new after)
 
+abbrev pub SomeTurns : {S : Type 0} → (S → Told) → (S → ℕ) → ServerState → S → ServerState → S
+    → Type 0
+SomeTurns calls failures old sockets new after =
+    (results : List (Result (Unit {0}) LoopFault))
+    × Turns calls failures old sockets results new after
+
 -- It is this client, or this driver.
 abbrev pub is_client : ℕ → Peer → Bool
 is_client c (Client d) = d == c

@@ -1,4 +1,4 @@
--- What the sockets over mio answer to `ready`, and what they report beside the calls.
+-- What the sockets over mio answer to `known` and `look`, and what they report beside the calls.
 use Rattle.std.specs.Prelude.{◌≡◌, ◌⊎◌, ℕ, ℤ, Bool, Option, if◌then◌else◌, slice_get, MatchOption}
 use Rattle.std.specs.Option.{option_and_then, option_map_or}
 use Rattle.nutusers.specs.UpsList.{id_at}
@@ -22,7 +22,7 @@ use Rattle.nutloop.specs.Pass.{HasTurn, IsOver, fresh, may}
 abbrev pub may_at : {R F : Type 0} → ServerState → MioSockets R F → Stop → Bool
 may_at s sockets = may s sockets.door.is_knocked_at sockets.drivers.items sockets.clients.items
 
--- The turn that `ready` answers at a stop. A driver that the server doesn't know to be connected is
+-- The turn of a stop. A driver that the server doesn't know to be connected is
 -- reported first.
 abbrev pub turn_of : Peer → Way → Ready
 turn_of p Read = ready.Read p
@@ -46,21 +46,21 @@ GivesTurn s sockets old answer new =
     (λ turn. (told : Stop) × (turn ≡ turn_at s sockets told)
     × HasTurn (may_at s sockets) old told new)
 
--- After a look: a tick, or the first turn of a new pass, or nothing where nobody is ready.
-abbrev pub GivesAfterLook : {R F : Type 0} → ServerState → MioSockets R F → Ready → Pass → Type 0
-GivesAfterLook s sockets answer new =
-    ((second : ℕ) × (answer ≡ ready.Tick second) × (new ≡ fresh))
-    ⊎ (((told : Stop) × (answer ≡ turn_at s sockets told)
-    × HasTurn (may_at s sockets) fresh told new)
-    ⊎ ((answer ≡ ready.Nothing) × IsOver (may_at s sockets) fresh new))
-
--- The next turn without a look, or a look where the pass is over.
-abbrev pub AnswersReady : {R F : Type 0} → ServerState → MioSockets R F → Ready → MioSockets R F
-    → Type 0
-AnswersReady s old answer new =
-    ((told : Stop) × (answer ≡ turn_at s old told)
+-- The next turn without a look, or the pass is over.
+abbrev pub AnswersKnown : {R F : Type 0} → ServerState → MioSockets R F → Option Ready
+    → MioSockets R F → Type 0
+AnswersKnown s old answer new =
+    MatchOption answer (IsOver (may_at s old) old.pass old.pass)
+    (λ turn. (told : Stop) × (turn ≡ turn_at s old told)
     × HasNext (may_at s old) old.pass told new.pass)
-    ⊎ ((over : Pass) × IsOver (may_at s old) old.pass over × GivesAfterLook s new answer new.pass)
+
+-- After a look: a tick, or the first turn of a new pass, or nothing where nobody is ready.
+abbrev pub AnswersLook : {R F : Type 0} → ServerState → Ready → MioSockets R F → Type 0
+AnswersLook s answer new =
+    ((second : ℕ) × (answer ≡ ready.Tick second) × (new.pass ≡ fresh))
+    ⊎ (((told : Stop) × (answer ≡ turn_at s new told)
+    × HasTurn (may_at s new) fresh told new.pass)
+    ⊎ ((answer ≡ ready.Nothing) × IsOver (may_at s new) fresh new.pass))
 
 -- How many newcomers were sent away, and the number of the error by which a driver couldn't be
 -- connected to.

@@ -6,9 +6,10 @@ use Rattle.nutcore.specs.declared.event.Event.{Event}
 use Rattle.nutcore.specs.declared.event.Event.TheVariants as event
 use Rattle.nutcore.specs.declared.event.Peer.TheVariants.{Client, Driver}
 use Rattle.nutloop.specs.declared.sockets.Call.{Call}
-use Rattle.nutloop.specs.declared.sockets.Call.TheVariants.{Gave, Waits, Ended, Happens}
+use Rattle.nutloop.specs.declared.sockets.Call.TheVariants.{Readied, Gave, Waits, Ended, Happens}
 use Rattle.nutloop.specs.declared.sockets.Got.{Got}
 use Rattle.nutloop.specs.declared.sockets.Got.TheVariants.{Bytes, Later, End}
+use Rattle.nutloop.specs.declared.sockets.Ready.{Ready}
 use Rattle.nutcore.specs.declared.event.Peer.{Peer}
 
 -- What is told of a read: how many bytes were asked for, as many as there is room for, and what the
@@ -17,6 +18,11 @@ abbrev pub read_call : Peer → List ℕ → Got → Call
 read_call p into (Bytes n) = Gave p (length into) (take n into)
 read_call p into Later = Waits p (length into)
 read_call p into End = Ended p (length into)
+
+-- What is told of what is known to be ready.
+abbrev pub readied : Option Ready → List Call
+readied (Some ready) = Readied ready ∷ []
+readied None = []
 
 -- A read gives no more than there is room for.
 abbrev pub AtMost : {E : Type 0} → Result Got E → List ℕ → Type 0

@@ -4,7 +4,7 @@ ghost use Rattle.nutio.specs.Ends.{IsCounted, counted};
 ghost use Rattle.nutloop.specs.Sockets.{Grows, nothing_told};
 ghost use Rattle.std.specs.Duration.{as_nanos};
 ghost use Rattle.nutloop.specs.Clock.{Ticks, next_second};
-ghost use Rattle.nutloop.specs.OverMio.{AnswersReady, GivesTurn, error_of, refused, turn_of};
+ghost use Rattle.nutloop.specs.OverMio.{AnswersKnown, AnswersLook, GivesTurn, error_of, refused, turn_of};
 ghost use Rattle.nutloop.specs.Pass.{fresh};
 ghost use Rattle.nutloop.specs.declared.sockets.Call.TheVariants.{Refused};
 
@@ -121,22 +121,25 @@ impl<'a, R: Net + Clock, F: Read + Drop> MioSockets<'a, R, F> {
         self.refusals
     }
 
-    /// What this pass has left, or the next one, or what the system and the clock report.
-    fn next_turn(&mut self, server: &Server) -> io::Result<Ready>
-        ensures answers { IfOk result (λ ready.
-            AnswersReady server.now.state self.old ready self.new) }
+    /// The next turn without a look: what this pass has left, or the next one.
+    fn next_turn(&mut self, server: &Server) -> Option<Ready>
+        ensures answers { AnswersKnown server.now.state self.old result self.new }
         ensures failures { self.new.failures ≡ self.old.failures }
     {
         if let Some(ready) = self.visit(server) {
-            return Ok(ready);
+            return Some(ready);
         }
-        if let Some(pass) = self.pass.again() {
-            self.pass = pass;
-            if let Some(ready) = self.visit(server) {
-                return Ok(ready);
-            }
-        }
-        if let Some(second) = self.look(server)? {
+        self.pass = self.pass.again()?;
+        self.visit(server)
+    }
+
+    /// What the system and the clock report.
+    fn first_turn(&mut self, server: &Server) -> io::Result<Ready>
+        ensures answers { IfOk result (λ ready.
+            AnswersLook server.now.state ready self.new) }
+        ensures failures { self.new.failures ≡ self.old.failures }
+    {
+        if let Some(second) = self.ask(server)? {
             return Ok(Ready::Tick(second));
         }
         Ok(self.visit(server).unwrap_or(Ready::Nothing))
@@ -172,7 +175,7 @@ impl<'a, R: Net + Clock, F: Read + Drop> MioSockets<'a, R, F> {
 
     /// Asks the system, and waits for it up to the next tick where nobody had a turn; and the clock. The second, where it is
     /// a new one.
-    fn look(&mut self, server: &Server) -> io::Result<Option<u64>>
+    fn ask(&mut self, server: &Server) -> io::Result<Option<u64>>
         ensures pass { OnOk result (self.new.pass ≡ fresh) }
         ensures tick { IfOk result (λ tick. Ticks tick self.old.second self.new.second) }
         ensures failures { self.new.failures ≡ self.old.failures }
@@ -267,26 +270,22 @@ impl<'a, R: Net + Clock, F: Read + Drop> Sockets for MioSockets<'a, R, F> {
 
     ghost failures = { λ s. s.failures };
 
-    /// Whether this pass has a turn left.
-    fn is_busy(&self, server: &Server) -> bool {
-        let mut pass = self.pass;
-        let (drivers, clients) = (self.drivers.as_slice(), self.clients.as_slice());
-        pass.visit(server, self.door.is_knocked_at, drivers, clients)
-            .is_some()
-    }
-
     /// An id that is due, or the next turn.
-    fn ready(&mut self, server: &Server) -> Result<Ready, Broken> {
+    fn known(&mut self, server: &Server) -> Option<Ready> {
         if let Some(ids) = &mut self.ids {
             if let Some(id) = ids.next() {
-                return Ok(Ready::Id(id));
+                return Some(Ready::Id(id));
             }
         }
         // What a client is owed changes by its own turns alone.
         if let Some(Some(client)) = self.clients.get_mut(self.here) {
             client.standing = server.standing(client.id).unwrap_or_default();
         }
-        let answer = self.next_turn(server).map_err(|_| Broken);
+        self.next_turn(server)
+    }
+
+    fn look(&mut self, server: &Server) -> Result<Ready, Broken> {
+        let answer = self.first_turn(server).map_err(|_| Broken);
         self.count(answer)
     }
 

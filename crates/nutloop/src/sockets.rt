@@ -2,7 +2,7 @@
 ghost use Rattle.std.specs.Prelude.{◌≡◌, ◌≤◌, ◌∷◌, [], ℕ, length, IfOk};
 ghost use Rattle.nutloop.specs.declared.sockets.Call.TheVariants.{Readied, Accepted, Named, Refused, Wrote, Shut, Happens};
 ghost use Rattle.nutio.specs.Ends.{IsCounted};
-ghost use Rattle.nutloop.specs.Sockets.{Told, Grows, Logs, AtMost, came_from, read_call};
+ghost use Rattle.nutloop.specs.Sockets.{Told, Grows, Logs, AtMost, came_from, read_call, readied};
 
 use nutcore::{Bytes, ClientId, Event, Peer, Server, UpsId};
 use nutwords::Address;
@@ -66,7 +66,7 @@ pub enum Call {
 #[derive(Clone, Copy)]
 pub struct Broken;
 
-/// The sockets of all peers. No call waits for a peer but `ready`, which waits for all of them.
+/// The sockets of all peers. No call waits for a peer but `look`, which waits for all of them.
 pub trait Sockets {
     /// The calls that were answered so far, where these sockets tell them, and of which events they
     /// hold a record. A call that failed isn't among them.
@@ -75,13 +75,26 @@ pub trait Sockets {
     /// How many calls failed. The count stops at its greatest number.
     ghost failures: { Self → ℕ };
 
-    /// Whether somebody is known to be ready: the next `ready` doesn't wait then.
-    fn is_busy(&self, server: &Server) -> bool;
+    /// What is known to be ready, of what concerns this server.
+    fn known(&mut self, server: &Server) -> Option<Ready>
+        ensures told { Grows (calls self.old) (calls self.new) (readied result) }
+        ensures count { failures self.new ≡ failures self.old };
 
-    /// What is ready now, of what concerns this server.
-    fn ready(&mut self, server: &Server) -> Result<Ready, Broken>
+    /// Looks what is ready, where nothing is known to be.
+    fn look(&mut self, server: &Server) -> Result<Ready, Broken>
         ensures told { Logs (calls self.old) (calls self.new) Readied result }
         ensures count { IsCounted (failures self.old) (failures self.new) result };
+
+    /// What is ready now: what is known to be, or what a look tells.
+    final fn ready(&mut self, server: &Server) -> Result<Ready, Broken>
+        ensures told { Logs (calls self.old) (calls self.new) Readied result }
+        ensures count { IsCounted (failures self.old) (failures self.new) result }
+    {
+        match self.known(server) {
+            Some(ready) => Ok(ready),
+            None => self.look(server),
+        }
+    }
 
     /// Takes in the next newcomer, and tells its address. It is to be named or refused.
     fn accept(&mut self) -> Result<Option<Address>, Broken>

@@ -1,17 +1,19 @@
--- A recorder after one more event.
+-- A recorder after one more event, and after what waits is written.
 use Rattle.std.proofs.Common.{◌≡◌, ◌∙◌, ℕ, Bool, true, false, not, is_some, string_bytes, ◌⊎◌, inl, inr, List, [], ◌∷◌, ◌++◌, Option, Some, None, refl, sym, ap, subst, append-nil, append_assoc}
-use Rattle.std.specs.Prelude.{OnSome}
+use Rattle.std.specs.Prelude.{OnSome, Result, Ok, Err}
+use Rattle.std.specs.Io.KnownBytes.{Appends}
 use Rattle.nutio.specs.Ends.{IsBeginning}
 use Rattle.nutusers.specs.UpsList.{Ups, IsList}
 use Rattle.nutcore.specs.declared.event.Event.{Event}
 use Rattle.nutcore.specs.declared.event.Peer.{Peer}
 use Rattle.nutcore.specs.declared.event.Peer.TheVariants.{Client, Driver}
-use Rattle.nutloop.specs.Sockets.{came_from}
+use Rattle.nutloop.specs.Sockets.{Told, Continues, Logs, events_in, came_from}
+use Rattle.nutloop.specs.declared.sockets.Call.{Call}
 use Rattle.nutreplay.specs.Script.{sent}
 use Rattle.nutreplay.specs.Written.{IsReadAs, IsEventOf, line_of, line_of_bytes}
 use Rattle.nutreplay.proofs.ReadBack.{what_is_written_is_read_back}
 use Rattle.upsd.specs.declared.recorded.Recorder.{Recorder}
-use Rattle.upsd.specs.Recorded.{next_line, HasEnded, GoesOn, IsRecordOf, RecordsNext}
+use Rattle.upsd.specs.Recorded.{next_line, HasEnded, GoesOn, IsRecordOf, IsFileOf, Records, RecordsNext, Leaves, WritesAll, recorded}
 
 -- One more event where the record has ended.
 later : (list : List Ups) (part : List ℕ) (lost : List Event) (e : Event) → IsBeginning part (next_line list lost) → IsBeginning part (next_line list (lost ++ e ∷ []))
@@ -105,3 +107,55 @@ module _ {W : Type 0} (contents : W → Option (List ℕ)) where
     is = subst (λ list. IsRecordOf list new.is_cut h.script (string_bytes new.waiting) (events ++ e ∷ [])) (sym same_list)
         (kept old.list h.script (string_bytes old.waiting) (string_bytes new.waiting) events e done new.is_cut cut h.is_list line lawful (subst (λ b. IsRecordOf old.list b h.script (string_bytes old.waiting) events) goes_on h.is));
   }
+
+appended : (old new : Option (List ℕ)) (script text : List ℕ) → old ≡ Some script → Appends old new text → new ≡ Some (script ++ text)
+appended None new script text known h = cc known
+appended (Some xs) None script text known h = absurd h
+appended (Some xs) (Some ys) script text known h = cc (known, h)
+
+module _ {W : Type 0} (contents : W → Option (List ℕ)) (failures : W → ℕ) where
+  -- What a write of the lines that wait leaves.
+  file_after : (list : List Ups) (left : ℕ) (old new : W) (script waiting : List ℕ) (events : List Event) (cut : Bool) → contents old ≡ Some script → GoesOn list script waiting events
+      → Leaves contents failures left old waiting (not cut) new → (file : List ℕ) × (contents new ≡ Some file) × IsFileOf list cut file events
+  file_after list left old new script waiting events false known goes written = (script ++ waiting, appended (contents old) (contents new) script waiting known written.bytes_written, goes.read)
+  file_after list left old new script waiting events true known goes (inl long) = (script, ap contents long.1 ∙ known, subst (λ s. HasEnded list s events) (append-nil script) (goes.stops [] (waiting, refl)))
+  file_after list left old new script waiting events true known goes (inr failed) =
+      (script ++ failed.front, appended (contents old) (contents new) script failed.front known failed.bytes_written, goes.stops failed.front failed.begins)
+
+  pub is_file_of : (old new : Recorder W) (events : List Event) → Records contents old events → WritesAll contents failures old new
+      → (file : List ℕ) × (contents new.writer ≡ Some file) × IsFileOf new.list new.is_cut file events
+  is_file_of old new events h written = of old.is_cut refl
+    where
+      of : (cut : Bool) → old.is_cut ≡ cut → (file : List ℕ) × (contents new.writer ≡ Some file) × IsFileOf new.list new.is_cut file events
+      of true is = (
+        h.script,
+        ap contents (written.ended is).1 ∙ h.known,
+        subst (λ list. IsFileOf list new.is_cut h.script events) (sym written.list)
+            (subst (λ cut. IsFileOf old.list cut h.script events) (sym (written.ended is).0) (subst (λ cut. IsRecordOf old.list cut h.script (string_bytes old.waiting) events) is h.is)),
+      )
+      of false is =
+          let file = file_after old.list old.left old.writer new.writer h.script (string_bytes old.waiting) events new.is_cut h.known
+          (subst (λ cut. IsRecordOf old.list cut h.script (string_bytes old.waiting) events) is h.is) (written.goes_on is) in
+          (file.0, file.1, subst (λ list. IsFileOf list new.is_cut file.0 events) (sym written.list) file.2)
+
+  -- The recorder has recorded the same events.
+  pub same_events : (old new : Recorder W) → WritesAll contents failures old new → Continues (Records contents old) (Records contents new) []
+  same_events old new written = λ events h.
+      let file = is_file_of old new events h written in
+      record {
+        is_list = subst IsList (sym written.list) h.is_list;
+        script = file.0;
+        known = file.1;
+        is = subst (λ waiting. IsRecordOf new.list new.is_cut file.0 waiting (events ++ [])) (sym written.none_waits)
+            (subst (λ es. IsRecordOf new.list new.is_cut file.0 [] es) (sym (append-nil events)) (with_none new.list new.is_cut file.0 events file.2));
+      }
+    where
+      with_none : (list : List Ups) (cut : Bool) (file : List ℕ) (events : List Event) → IsFileOf list cut file events → IsRecordOf list cut file [] events
+      with_none list true file events h = h
+      with_none list false file events h = nothing_waits list file events h
+
+-- A look behind a write of what waits.
+pub looked : {T E : Type 0} (old new : Told) (records written : List Event → Type 0) (call : T → Call) (result : Result T E) → Continues records written [] → ((x : T) → events_in (call x ∷ []) ≡ [])
+    → Logs old new call result → Logs (recorded old records) (recorded new written) call result
+looked old new records written call (Ok x) goes_on no_event told = (told.0, subst (λ es. Continues records written es) (sym (no_event x)) goes_on)
+looked old new records written call (Err e) goes_on no_event told = (told.0, goes_on)

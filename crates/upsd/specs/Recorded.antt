@@ -1,7 +1,7 @@
 -- What a recorder has written of the events, and what that is read as.
-use Rattle.std.specs.Prelude.{◌≡◌, ℕ, Bool, true, false, List, [], ◌∷◌, ◌++◌, Option, Some, Result, string_bytes}
-use Rattle.std.specs.Io.KnownBytes.{Appends}
-use Rattle.nutio.specs.Ends.{IsBeginning}
+use Rattle.std.specs.Prelude.{◌≡◌, ◌⊎◌, ◌<◌, ℕ, Bool, true, false, not, List, [], ◌∷◌, ◌++◌, length}
+use Rattle.std.specs.Prelude.{Option, Some, Result, string_bytes}
+use Rattle.nutio.specs.Ends.{IsBeginning, Written, WriteFailed}
 use Rattle.nutusers.specs.UpsList.{Ups, IsList}
 use Rattle.nutcore.specs.declared.event.Event.{Event}
 use Rattle.nutcore.specs.declared.event.Outcome.{Outcome}
@@ -9,7 +9,7 @@ use Rattle.nutcore.specs.Server.{ServerState}
 use Rattle.nutcore.specs.Run.{Run}
 use Rattle.nutloop.specs.declared.fault.LoopFault.{LoopFault}
 use Rattle.nutloop.specs.Sockets.{Told}
-use Rattle.nutloop.specs.Moved.{Turns}
+use Rattle.nutloop.specs.Moved.{SomeTurns, Turns}
 use Rattle.nutreplay.specs.Written.{IsReadAs, line_of}
 use Rattle.upsd.specs.declared.recorded.Recorded.{Recorded}
 use Rattle.upsd.specs.declared.recorded.Recorder.{Recorder}
@@ -57,23 +57,51 @@ RecordsNext contents old event new =
     (events : List Event) → Records contents old events
     → Records contents new (events ++ event ∷ [])
 
--- What a write of a text leaves: all of it, or a beginning.
-abbrev pub Leaves : {W : Type 0} → (W → Option (List ℕ)) → W → List ℕ → Bool → W → Type 0
-Leaves contents old text true new = Appends (contents old) (contents new) text
-Leaves contents old text false new =
-    (front : List ℕ) × IsBeginning front text × Appends (contents old) (contents new) front
+-- What a write of a text leaves: all of it; or nothing of one that is longer than is left, or a
+-- beginning, where a write failed.
+abbrev pub Leaves : {W : Type 0} → (W → Option (List ℕ)) → (W → ℕ) → ℕ → W → List ℕ → Bool → W
+    → Type 0
+Leaves contents failures left old text true new = Written contents failures old text new
+Leaves contents failures left old text false new =
+    ((left < length text) × (new ≡ old)) ⊎ WriteFailed contents failures old text new
+
+-- The lines that wait are written, where the record hasn't ended, and none waits any more.
+pub record WritesAll {W : Type 0} (contents : W → Option (List ℕ)) (failures : W → ℕ)
+    (old new : Recorder W) : Type 0 where
+  pub list : new.list ≡ old.list
+  pub none_waits : string_bytes new.waiting ≡ []
+  pub ended : old.is_cut ≡ true → (new.is_cut ≡ true) × (new.writer ≡ old.writer)
+  pub goes_on : old.is_cut ≡ false
+      → Leaves contents failures old.left old.writer (string_bytes old.waiting) (not new.is_cut)
+      new.writer
 
 -- What the sockets tell, and what is recorded beside them.
 abbrev pub recorded : Told → (List Event → Type 0) → Told
 recorded told records = record told { records = records }
 
--- Over any turns, a recorder that has recorded no events comes to have recorded those of the turns.
+-- Turns were made, and then what waits was written.
+abbrev pub ServesRecorded : {S W : Type 0} → (Recorded S W → Told) → (Recorded S W → ℕ)
+    → (W → Option (List ℕ)) → (W → ℕ) → ServerState → Recorded S W → ServerState → Recorded S W
+    → Type 0
+ServesRecorded {S} {W} calls failures contents failed old sockets new after =
+    (served : Recorded S W) × SomeTurns calls failures old sockets new served
+    × WritesAll contents failed served.recorder after.recorder
+
+-- What is written is read as these events, or the record has ended.
+abbrev pub IsFileOf : List Ups → Bool → List ℕ → List Event → Type 0
+IsFileOf list false script events = IsReadAs list script events
+IsFileOf list true script events = HasEnded list script events
+
+-- Over any turns from a recorder that has recorded no events, and then a write of what waits: the
+-- file is of the events of the turns.
 abbrev pub ARecordIsTheRun : {S W : Type 0} → (Recorded S W → Told) → (Recorded S W → ℕ)
-    → (W → Option (List ℕ)) → Type 0
-ARecordIsTheRun {S} {W} calls failures contents =
-    (old new : ServerState) (sockets after : Recorded S W)
+    → (W → Option (List ℕ)) → (W → ℕ) → Type 0
+ARecordIsTheRun {S} {W} calls failures contents failed =
+    (old new : ServerState) (sockets after : Recorded S W) (last : Recorder W)
     (results : List (Result (Unit {0}) LoopFault))
     → Turns calls failures old sockets results new after → Records contents sockets.recorder []
-    → (events : List Event)
+    → WritesAll contents failed after.recorder last
+    → (script : List ℕ)
+    × ((events : List Event)
     × ((outcomes : List Outcome) × Run old events outcomes new
-    × Records contents after.recorder events)
+    × (contents last.writer ≡ Some script) × IsFileOf last.list last.is_cut script events))

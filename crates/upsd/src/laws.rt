@@ -28,12 +28,12 @@ pub fn a_refusal_is_logged_once_a_second()
     ensures { ARefusalIsLoggedOnceASecond }
 {}
 
-/// Over any turns, whatever the sockets do, `replay` reads what is written after comments, and what
-/// waits, as exactly their events. Wherever the writing stops, the file has the lines of a beginning
-/// of these, and at most a beginning of one more.
+/// After any turns and then a look or the end of serving, whatever the sockets do, `replay` reads
+/// the file as exactly their events. Or the record has ended, with a beginning of their lines, the
+/// last perhaps cut.
 pub fn a_record_is_the_run<S: Sockets, W: Sink + Drop>()
     ensures { ARecordIsTheRun ⟦<Recorded<S, W> as Sockets>⟧.calls
-        ⟦<Recorded<S, W> as Sockets>⟧.failures W.contents }
+        ⟦<Recorded<S, W> as Sockets>⟧.failures W.contents W.failures }
 {
     every_event_is_recorded::<Recorded<S, W>>();
 }

@@ -1,9 +1,11 @@
 //! Sockets that write down each event of the server, as a line of a script that `replay` reads.
 ghost use Rattle.std.specs.Prelude.{◌≡◌, is_some, List, ℕ, Some, []};
 ghost use Rattle.nutcore.specs.declared.event.Event.{Event};
-ghost use Rattle.nutloop.specs.Sockets.{Continues, came_from};
+ghost use Rattle.nutio.specs.Ends.{IsCounted};
+ghost use Rattle.nutloop.specs.Sockets.{Logs, came_from};
+ghost use Rattle.nutloop.specs.declared.sockets.Call.TheVariants.{Readied};
 ghost use Rattle.nutreplay.specs.Written.{IsReadAs};
-ghost use Rattle.upsd.specs.Recorded.{Leaves, Records, RecordsNext, recorded};
+ghost use Rattle.upsd.specs.Recorded.{Leaves, Records, RecordsNext, WritesAll, recorded};
 
 use nutcore::{ClientId, Event, Peer, Server, UpsList};
 use nutio::{Sink, send};
@@ -43,15 +45,16 @@ impl<W: Sink + Drop> Recorder<W> {
         }
     }
 
-    /// Writes the lines that wait, at once. Where that fails the record has ended.
-    fn flush(&mut self)
-        ensures { Continues (Records W.contents self.old) (Records W.contents self.new) [] }
+    /// Writes the lines that wait. Where that fails, or they are more than the limit leaves, the
+    /// record has ended.
+    pub fn flush(&mut self)
+        ensures { WritesAll W.contents W.failures self.old self.new }
     {
-        if !self.is_cut && !self.waiting.is_empty() {
+        if !self.is_cut {
             let lines = self.waiting.as_bytes();
             self.is_cut = write_within(&mut self.writer, &mut self.left, lines).is_none();
-            self.waiting.clear();
         }
+        self.waiting.clear();
     }
 
     /// Records the event.
@@ -76,7 +79,8 @@ impl<W: Sink + Drop> Recorder<W> {
 
 /// Writes the text, if it has no more than so many bytes.
 fn write_within<W: Sink>(writer: &mut W, left: &mut u64, text: &[u8]) -> Option<()>
-    ensures { Leaves W.contents writer.old text.now (is_some result) writer.new }
+    ensures { Leaves W.contents W.failures left.old
+        writer.old text.now (is_some result) writer.new }
 {
     *left = left.checked_sub(text.len() as u64)?;
     send(writer, text).ok()
@@ -95,9 +99,9 @@ impl<F: Read + Drop> Served<F> for MioSockets<'_, HostRuntime, F> {
     }
 }
 
-impl<F: Read + Drop, W: Sink + Drop> Served<F> for Recorded<MioSockets<'_, HostRuntime, F>, W> {
+impl<F, S: Served<F>, W: Sink + Drop> Served<F> for Recorded<S, W> {
     fn shown(&self) -> (&MioSockets<'_, HostRuntime, F>, bool) {
-        (&self.sockets, self.recorder.is_cut)
+        (self.sockets.shown().0, self.recorder.is_cut)
     }
 }
 
@@ -113,15 +117,21 @@ impl<S: Sockets, W: Sink + Drop> Sockets for Recorded<S, W> {
 
     ghost failures = { λ r. S.failures r.sockets };
 
-    fn is_busy(&self, server: &Server) -> bool {
-        self.sockets.is_busy(server)
+    fn known(&mut self, server: &Server) -> Option<Ready> {
+        self.sockets.known(server)
     }
 
-    fn ready(&mut self, server: &Server) -> Result<Ready, Broken> {
-        if !self.sockets.is_busy(server) {
-            self.recorder.flush();
-        }
-        self.sockets.ready(server)
+    /// The lines that wait are written before it may wait.
+    fn look(&mut self, server: &Server) -> Result<Ready, Broken>
+        ensures told { Logs
+            (recorded (S.calls self.old.sockets) (Records W.contents self.old.recorder))
+            (recorded (S.calls self.new.sockets) (Records W.contents self.new.recorder))
+            Readied result }
+        ensures count { IsCounted (S.failures self.old.sockets) (S.failures self.new.sockets) result }
+        ensures written { WritesAll W.contents W.failures self.old.recorder self.new.recorder }
+    {
+        self.recorder.flush();
+        self.sockets.look(server)
     }
 
     fn accept(&mut self) -> Result<Option<Address>, Broken> {

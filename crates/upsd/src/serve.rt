@@ -2,10 +2,12 @@
 ghost use Rattle.std.specs.Prelude.{◌≡◌, ◌≢◌, ◌⊎◌, MatchResult, IfOk, IfErr, Ok, Err, is_some};
 ghost use Rattle.std.specs.IoError.{error_kind, raw_os_error};
 ghost use Rattle.nutloop.specs.declared.fault.LoopFault.{LoopFault};
+ghost use Rattle.nutloop.specs.Moved.{SomeTurns};
 ghost use Rattle.nutloop.specs.Serving.{IsOneRun, TurnsUpTo};
 ghost use Rattle.upsd.specs.Configuration.{FirstFails, IsServerOf};
 ghost use Rattle.upsd.specs.Ending.{IsEndOfServing, TellsAddress};
 ghost use Rattle.upsd.specs.Reading.{CantBeMade, CantBeOpened, anything};
+ghost use Rattle.upsd.specs.Recorded.{ServesRecorded};
 
 use crate::ending::Ending;
 use crate::files::{Files, configuration_in};
@@ -16,7 +18,7 @@ use crate::task::Service;
 use crate::warnings::warn;
 use nutcore::{MaxAge, Server};
 use nutio::{CountedWriter, Sink, send};
-use nutloop::MioSockets;
+use nutloop::{MioSockets, Sockets};
 use nutversion::VERSION;
 use std::alloc::Global;
 use std::fs::File;
@@ -92,7 +94,7 @@ fn serve<'a>(
             Some(path) => match recorder_in(rt, server, path, service.record_limit) {
                 Ok(recorder) => {
                     let mut sockets = Recorded { sockets, recorder };
-                    serve_over(rt, server, &mut sockets, files, service)
+                    serve_recorded(rt, server, &mut sockets, files, service)
                 }
                 Err(ending) => Err(ending),
             },
@@ -132,6 +134,24 @@ fn write_head(rt: &HostRuntime, file: &mut File) -> io::Result<()> {
     file.write_all(head.as_bytes())
 }
 
+/// Serves over these sockets, and then writes what waits of the record.
+fn serve_recorded<'a, S: Served<File>, W: Sink + Drop>(
+    rt: &HostRuntime,
+    server: &mut Server,
+    sockets: &mut Recorded<S, W>,
+    files: Files<'a>,
+    service: Service,
+) -> Result<(), Ending<'a>>
+    ensures ends { IfErr result (IsEndOfServing service.address) }
+    ensures written { ServesRecorded ⟦<Recorded<S, W> as Sockets>⟧.calls
+        ⟦<Recorded<S, W> as Sockets>⟧.failures W.contents W.failures
+        server.old.state sockets.old server.new.state sockets.new }
+{
+    let ended = serve_over(rt, server, sockets, files, service);
+    sockets.recorder.flush();
+    ended
+}
+
 /// Writes the warnings, prints the address, and serves from then on.
 fn serve_over<'a, S: Served<File>>(
     rt: &HostRuntime,
@@ -140,7 +160,9 @@ fn serve_over<'a, S: Served<File>>(
     files: Files<'a>,
     service: Service,
 ) -> Result<(), Ending<'a>>
-    ensures { IfErr result (IsEndOfServing service.address) }
+    ensures ends { IfErr result (IsEndOfServing service.address) }
+    ensures turns { SomeTurns S.calls S.failures
+        server.old.state sockets.old server.new.state sockets.new }
 {
     let address = service.address;
     let mut journal = Journal::new(rt.alloc(), service).map_err(|_| Ending::Memory)?;
