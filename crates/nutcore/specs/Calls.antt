@@ -3,7 +3,7 @@ use Rattle.std.specs.Prelude.{◌≡◌, ℕ, Bool, List, Result, Ok, Err, Optio
 use Rattle.std.specs.Prelude.{◌==◌, if◌then◌else◌, length, take}
 use Rattle.nutcore.specs.declared.TheConstants.{HELD_LIMIT}
 use Rattle.nutcore.specs.declared.event.Outcome.{Outcome}
-use Rattle.nutcore.specs.declared.standing.Standing.{Standing}
+use Rattle.nutcore.specs.declared.server.status.Standing.{Standing}
 use Rattle.nutcore.specs.declared.event.Outcome.TheVariants.{Done, Fed, Opened, Refused}
 use Rattle.nutcore.specs.declared.event.Fault.{Fault}
 use Rattle.nutcore.specs.declared.event.Fault.TheVariants.{NoSuchUps, NoSuchClient}

@@ -2,7 +2,7 @@
 -- none of it.
 use Rattle.std.specs.Prelude.{◌≡◌, ◌<◌, ◌≤◌, ◌-◌, ◌⊎◌, ◌==◌, ℕ, Bool, true, false, if◌then◌else◌}
 use Rattle.std.specs.Prelude.{List, [], Option, Some, None, Result, Ok, Err, IsTrue, length, drop}
-use Rattle.std.specs.Prelude.{take, map, slice_get, ◌++◌, ◌∷◌}
+use Rattle.std.specs.Prelude.{take, map, slice_get}
 use Rattle.std.specs.List.{position_or_len}
 use Rattle.nutcore.specs.declared.event.Fault.{Fault}
 use Rattle.nutcore.specs.declared.event.Fault.TheVariants.{NoSuchUps}
@@ -16,6 +16,7 @@ use Rattle.nutanswer.specs.declared.reply.Change.TheVariants.{Nothing}
 use Rattle.nutanswer.specs.Orders.{order}
 use Rattle.nutlisting.specs.declared.outbox.TheConstants.{OWED_LIMIT}
 use Rattle.nutanswer.specs.Command.{read_command}
+use Rattle.nutlisting.specs.Bounded.{with_one}
 use Rattle.nutlisting.specs.Counted.{KeepsCount}
 use Rattle.nutlisting.specs.Counts.{lines}
 use Rattle.nutlisting.specs.Lines.{IsWholeLine}
@@ -281,8 +282,7 @@ note_in_reply x read (Clients name u) = None
 
 -- the notes, and one more, if there is one and room for it
 abbrev pub with_note : Option Note → List Note → List Note
-with_note None notes = notes
-with_note (Some note) notes = take NOTE_LIMIT (notes ++ note ∷ [])
+with_note = with_one NOTE_LIMIT
 
 -- what is noted of the client's next line, if it may be executed
 abbrev pub told_next : ServerState → ℕ → Option (List ℕ) → Option Note

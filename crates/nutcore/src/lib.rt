@@ -10,7 +10,6 @@ mod note;
 mod scratch;
 mod server;
 mod session;
-mod standing;
 mod ups;
 
 pub use cost::Cost;
@@ -22,8 +21,7 @@ pub use nutlisting::{OWED_LIMIT, Outbox, QUEUE_LIMIT, SESSION_LIMIT};
 pub use nutusers::{Descriptions, UpsId, UpsList, Users};
 pub use nutwords::Bytes;
 use nutwords::LINE_ROOM;
-pub use server::Server;
-pub use standing::Standing;
+pub use server::{Server, Standing};
 
 /// The most bytes of input that a session holds: those of the longest line with its LF.
 pub const HELD_LIMIT: usize = LINE_ROOM;

@@ -1,9 +1,7 @@
 //! What an event did that the journal logs.
-ghost use Rattle.std.specs.Prelude.{◌≡◌, ◌≤◌, [], length, IfOk, List, Some, vec_capacity};
+ghost use Rattle.std.specs.Prelude.{◌≡◌};
 ghost use Rattle.nutcore.specs.Notes.{data_note, note_read, refusal_in};
-ghost use Rattle.nutcore.specs.Promises.{note_in_reply, with_changes, with_note};
-ghost use Rattle.nutcore.specs.declared.note.Note.{Note};
-ghost use Rattle.nutcore.specs.declared.note.TheConstants.{NOTE_LIMIT};
+ghost use Rattle.nutcore.specs.Promises.{note_in_reply, with_note};
 
 use crate::HELD_LIMIT;
 use crate::event::ClientId;
@@ -11,17 +9,14 @@ use crate::lines::{ReadLine, line_end};
 use crate::session::Session;
 use nutanswer::{Change, Command, Reply};
 use nutdriver::DriverFault;
+use nutlisting::BoundedList;
 use nutusers::{UpsId, UserName};
 use nutwords::{Address, Name, UpsName, Value};
-use std::alloc::{AllocError, Global};
 use std::fmt::{self, Formatter, Write};
-use std::marker::Model;
 
-/// The fewest bytes of a command, with its LF.
-const SHORTEST_LINE: usize = 4;
-
-/// The most notes of an event: those of as many commands as a session holds, and one where it begins to end.
-pub const NOTE_LIMIT: usize = HELD_LIMIT / SHORTEST_LINE + 1;
+/// The most notes of an event: those of as many commands as a session holds, each of four bytes at least with its LF, and
+/// one where it begins to end.
+pub const NOTE_LIMIT: usize = HELD_LIMIT / 4 + 1;
 
 /// What an event did. It has names, and never a value or a password.
 #[derive(Drop)]
@@ -115,113 +110,49 @@ pub(crate) struct Look {
     pub state: DataState,
 }
 
-/// The notes of an event. There is room for all of them once it is made.
-#[derive(Drop)]
-pub(crate) struct Notes {
-    noted: Vec<Note>,
+/// The notes of an event.
+pub(crate) type Notes = BoundedList<Note, NOTE_LIMIT>;
+
+/// The note of how the data of a UPS stand, where they stood otherwise.
+pub(crate) fn data_note(u: UpsId, was: DataState, is: DataState) -> Option<Note>
+    ensures { result ≡ data_note u was is }
+{
+    (is != was).then_some(Note::Data(u, is))
 }
 
-impl Model for Notes {
-    ghost Value = { List Note };
-
-    ghost view = { λ n. n.noted.items };
-
-    ghost invariant = { λ n. (length n.noted.items ≤ NOTE_LIMIT) × (NOTE_LIMIT ≤ vec_capacity n.noted) };
+/// Notes what a line did that was read and answered so: one that changes nothing only where it is refused.
+pub(crate) fn add_line(notes: &mut Notes, session: &Session, read: &ReadLine<'_>, reply: &Reply<'_>)
+    ensures { notes.new ≡ with_note (note_in_reply session.now read.now reply.now) notes.old }
+{
+    if let Reply::One(text, change) = reply {
+        if !matches!(change, Change::Nothing) || text.starts_with(b"ERR ") {
+            add_told(notes, session, read, text);
+        }
+    }
 }
 
-impl Notes {
-    /// None. Only here it asks for memory.
-    ///
-    /// # Errors
-    ///
-    /// `AllocError` where memory is refused.
-    pub(crate) fn new(alloc: Global) -> Result<Notes, AllocError>
-        ensures { IfOk result (λ notes. notes ≡ []) }
-    {
-        let noted = Vec::with_capacity(alloc, NOTE_LIMIT)?;
-        Ok(Notes { noted })
-    }
-
-    /// All of them.
-    pub(crate) fn as_slice(&self) -> &[Note]
-        ensures { result.now ≡ self.now }
-    {
-        self.noted.as_slice()
-    }
-
-    /// None is noted.
-    pub(crate) fn clear(&mut self)
-        ensures { self.new ≡ [] }
-    {
-        self.noted.clear();
-    }
-
-    /// It is noted, while there are fewer than may be.
-    pub(crate) fn add(&mut self, note: Note)
-        ensures { self.new ≡ with_note (Some note) self.old }
-    {
-        if self.noted.len() < NOTE_LIMIT {
-            self.noted.push(note).unwrap();
-        }
-    }
-
-    /// Adds how the data of a UPS stand, where they stood otherwise.
-    pub(crate) fn add_data(&mut self, u: UpsId, was: DataState, is: DataState)
-        ensures { self.new ≡ with_note (data_note u was is) self.old }
-    {
-        if is != was {
-            self.add(Note::Data(u, is));
-        }
-    }
-
-    /// Adds how the UPS differs from an earlier look.
-    pub(crate) fn add_changes(&mut self, u: UpsId, was: &Look, is: &Look)
-        ensures { self.new ≡ with_changes u (Some was.now) (Some is.now) self.old }
-    {
-        if is.refused != was.refused {
-            let count = is.refused.saturating_sub(was.refused);
-            self.add(Note::LinesRefused(u, count, is.fault));
-        }
-        if is.status.is_some() && is.status != was.status {
-            self.add(Note::StatusChanged(u));
-        }
-        self.add_data(u, was.state, is.state);
-    }
-
-    /// Adds what a line did that was read and answered so: one that changes nothing only where it is refused.
-    pub(crate) fn add_line(&mut self, session: &Session, read: &ReadLine<'_>, reply: &Reply<'_>)
-        ensures { self.new ≡ with_note (note_in_reply session.now read.now reply.now) self.old }
-    {
-        if let Reply::One(text, change) = reply {
-            if !matches!(change, Change::Nothing) || text.starts_with(b"ERR ") {
-                self.add_told(session, read, text);
-            }
-        }
-    }
-
-    /// Adds what a line did that was read so, and answered by this text. It is a call of its own, so that no other line pays
-    /// for the room of a note.
-    #[inline(never)]
-    fn add_told(&mut self, session: &Session, read: &ReadLine<'_>, text: &[u8])
-        ensures { self.new ≡ with_note (note_read session.now read.now text.now) self.old }
-    {
-        let (verb, ups, name) = match read {
-            Ok(Some(Command::Login(ups))) => (Verb::Login, ups, None),
-            Ok(Some(Command::Primary(ups))) => (Verb::Primary, ups, None),
-            Ok(Some(Command::Fsd(ups))) => (Verb::Fsd, ups, None),
-            Ok(Some(Command::SetVar(ups, name, _))) => (Verb::SetVar, ups, Some(name)),
-            Ok(Some(Command::InstCmd(ups, name, _))) => (Verb::InstCmd, ups, Some(name)),
-            Ok(Some(Command::Logout)) => return session.note_logout(self),
-            _ => return,
-        };
-        self.add(Note::Did(Deed {
-            who: session.who(),
-            verb,
-            ups: ups.read(),
-            name: name.and_then(|name| name.read()),
-            refusal: refusal_in(text),
-        }))
-    }
+/// Notes what a line did that was read so, and answered by this text. It is a call of its own, so that no other line pays
+/// for the room of a note.
+#[inline(never)]
+fn add_told(notes: &mut Notes, session: &Session, read: &ReadLine<'_>, text: &[u8])
+    ensures { notes.new ≡ with_note (note_read session.now read.now text.now) notes.old }
+{
+    let (verb, ups, name) = match read {
+        Ok(Some(Command::Login(ups))) => (Verb::Login, ups, None),
+        Ok(Some(Command::Primary(ups))) => (Verb::Primary, ups, None),
+        Ok(Some(Command::Fsd(ups))) => (Verb::Fsd, ups, None),
+        Ok(Some(Command::SetVar(ups, name, _))) => (Verb::SetVar, ups, Some(name)),
+        Ok(Some(Command::InstCmd(ups, name, _))) => (Verb::InstCmd, ups, Some(name)),
+        Ok(Some(Command::Logout)) => return session.note_logout(notes),
+        _ => return,
+    };
+    notes.extend(Some(Note::Did(Deed {
+        who: session.who(),
+        verb,
+        ups: ups.read(),
+        name: name.and_then(|name| name.read()),
+        refusal: refusal_in(text),
+    })))
 }
 
 /// The word of a refusal, if the text is one.

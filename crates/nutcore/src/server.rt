@@ -24,6 +24,7 @@ mod status;
 mod view;
 
 use self::drivers::ping_upses;
+pub use self::status::Standing;
 use self::status::note_stale;
 use crate::cost::Cost;
 use crate::event::{ClientId, Event, Fault, Outcome};

@@ -24,7 +24,7 @@ use crate::event::Fault;
 use crate::lines::line_end;
 use crate::note::{Note, Notes, Who};
 use crate::scratch::Scratch;
-use crate::standing::Standing;
+use crate::server::Standing;
 use nutanswer::{Asker, Change, ErrWord, Reply};
 use nutlisting::{ByteQueue, Clients, Outbox};
 use nutusers::{Password, UpsId, UserName};
@@ -112,7 +112,7 @@ impl Session {
         ensures { notes.new ≡ with_note (logout_of self.now) notes.old }
     {
         if let Some(u) = self.login {
-            notes.add(Note::LoggedOut(u, self.who()));
+            notes.extend(Some(Note::LoggedOut(u, self.who())));
         }
     }
 
@@ -132,7 +132,7 @@ impl Session {
         ensures { clients.new ≡ clients.old ++ addresses_at u (seen_client self.now ∷ []) }
     {
         if self.logins(u) == 1 {
-            clients.push(&self.address);
+            clients.extend(Some(self.address.copied()));
         }
     }
 

@@ -19,6 +19,7 @@ ghost use Rattle.nutcore.specs.declared.note.TheConstants.{NOTE_LIMIT};
 use super::Server;
 use super::view::ServerView;
 use crate::event::{ClientId, Fault};
+use crate::note::add_line;
 use crate::session::Session;
 use crate::ups::Ups;
 use nutanswer::{Change, Command, Reply};
@@ -54,7 +55,7 @@ impl Server {
         let session = &self.sessions[place];
         let read = Command::read(session.next_line(end));
         let reply = view.reply_to(session.asker(), &read, &mut self.reply_line)?;
-        self.notes.add_line(session, &read, &reply);
+        add_line(&mut self.notes, session, &read, &reply);
         let (upses, tracking) = (&mut self.upses, &mut self.tracking);
         let clients = &mut self.scratch.clients;
         carry_out(&reply, upses, tracking, &self.sessions, clients);

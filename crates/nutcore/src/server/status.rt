@@ -10,10 +10,20 @@ ghost use Rattle.nutusers.specs.declared.limits.TheConstants.{UPS_LIMIT};
 
 use super::Server;
 use crate::event::{ClientId, Fault};
-use crate::note::{Look, Notes};
-use crate::standing::Standing;
+use crate::note::{Look, Note, Notes, data_note};
 use crate::ups::Ups;
 use nutusers::UpsId;
+
+/// How a client stands with the server, for whoever hands it what the client's socket gives.
+#[derive(Clone, Copy, Default)]
+pub struct Standing {
+    /// How many bytes it is offered.
+    pub offered: usize,
+    /// How many bytes of input its session takes in now.
+    pub room: usize,
+    /// Its session is ending, and owes nothing.
+    pub is_finished: bool,
+}
 
 impl Server {
     /// The moment, in seconds.
@@ -46,8 +56,7 @@ impl Server {
     pub(super) fn look(&self, u: UpsId) -> Option<Look>
         ensures { result ≡ look_at u self.now.state }
     {
-        let ups = self.ups_of(u).ok()?;
-        Some(ups.look(self.max_age, self.moment))
+        Some(self.ups_of(u).ok()?.look(self.max_age, self.moment))
     }
 
     /// Notes how the UPS differs from this earlier look.
@@ -58,7 +67,12 @@ impl Server {
         ensures cost { self.new.cost ≡ self.old.cost }
     {
         if let (Some(was), Some(is)) = (was, self.look(u)) {
-            self.notes.add_changes(u, &was, &is);
+            let notes = &mut self.notes;
+            let lines = Note::LinesRefused(u, is.refused.saturating_sub(was.refused), is.fault);
+            notes.extend((is.refused != was.refused).then_some(lines));
+            let is_other = is.status.is_some() && is.status != was.status;
+            notes.extend(is_other.then_some(Note::StatusChanged(u)));
+            notes.extend(data_note(u, was.state, is.state));
         }
     }
 
@@ -83,6 +97,6 @@ pub(super) fn note_stale(upses: &Vec<Ups>, max_age: u32, was: u64, is: u64, note
     for place in 0..upses.len() {
         let u = UpsId { place: place as u8 };
         let ups = &upses[place];
-        notes.add_data(u, ups.data_state(max_age, was), ups.data_state(max_age, is));
+        notes.extend(data_note(u, ups.data_state(max_age, was), ups.data_state(max_age, is)));
     }
 }
