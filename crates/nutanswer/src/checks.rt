@@ -71,7 +71,11 @@ impl<P: Peers> View<'_, P> {
     }
 
     /// The live UPS of this name, and the name and the variable of it that the command names.
-    pub(crate) fn live_variable<'a>(&'a self, ups: &UpsWord<'_>, name: &'a Option<Name>) -> Checked<(Known<'a>, &'a Name, &'a Variable)>
+    pub(crate) fn live_variable<'a>(
+        &'a self,
+        ups: &UpsWord<'_>,
+        name: &'a Option<Name>,
+    ) -> Checked<(Known<'a>, &'a Name, &'a Variable)>
         ensures { found known_variable result ≡ live_variable self.now ups.now name.now }
     {
         let ups = self.live_ups(ups)?;
@@ -82,7 +86,11 @@ impl<P: Peers> View<'_, P> {
     }
 
     /// The live UPS of this name, and the name of a command that it has.
-    pub(crate) fn live_command<'a>(&'a self, ups: &UpsWord<'_>, name: &'a Option<Name>) -> Checked<(Known<'a>, &'a Name)>
+    pub(crate) fn live_command<'a>(
+        &'a self,
+        ups: &UpsWord<'_>,
+        name: &'a Option<Name>,
+    ) -> Checked<(Known<'a>, &'a Name)>
         ensures { found known_command result ≡ live_command self.now ups.now name.now }
     {
         let ups = self.live_ups(ups)?;

@@ -18,7 +18,14 @@ use nutwords::Line;
 impl<P: Peers> View<'_, P> {
     /// SET VAR.
     #[inline(never)]
-    pub(crate) fn set_var<'a>(&self, asker: Asker<'_>, ups: &UpsWord<'_>, name: &NameWord<'_>, value: &ValueWord<'_>, line: &'a mut Line) -> Row<'a>
+    pub(crate) fn set_var<'a>(
+        &self,
+        asker: Asker<'_>,
+        ups: &UpsWord<'_>,
+        name: &NameWord<'_>,
+        value: &ValueWord<'_>,
+        line: &'a mut Line,
+    ) -> Row<'a>
         ensures { Gives
             (answer_to self.now (asker_seen asker.entry) (SetVar ups.now name.now value.now))
             result }
@@ -38,7 +45,14 @@ impl<P: Peers> View<'_, P> {
 
     /// INSTCMD.
     #[inline(never)]
-    pub(crate) fn inst_cmd<'a>(&self, asker: Asker<'_>, ups: &UpsWord<'_>, name: &NameWord<'_>, value: &Option<ValueWord<'_>>, line: &'a mut Line) -> Row<'a>
+    pub(crate) fn inst_cmd<'a>(
+        &self,
+        asker: Asker<'_>,
+        ups: &UpsWord<'_>,
+        name: &NameWord<'_>,
+        value: &Option<ValueWord<'_>>,
+        line: &'a mut Line,
+    ) -> Row<'a>
         ensures { Gives
             (answer_to self.now (asker_seen asker.entry) (InstCmd ups.now name.now value.now))
             result }

@@ -7,7 +7,9 @@ ghost use Rattle.nutanswer.specs.Promises.{Gives, GivesReply, row};
 ghost use Rattle.nutanswer.specs.declared.command.Command.TheVariants.{Username, Password, Login, Primary, Fsd, GetTracking, ListClient};
 
 use super::{Row, ok, plain};
-use crate::{Asker, Change, ErrWord, GivenPassword, PasswordWord, Peers, Reply, UpsWord, UserWord, View};
+use crate::{
+    Asker, Change, ErrWord, GivenPassword, PasswordWord, Peers, Reply, UpsWord, UserWord, View,
+};
 use nutusers::Right;
 use nutwords::Line;
 
