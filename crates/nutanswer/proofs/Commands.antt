@@ -18,7 +18,7 @@ use Rattle.nutanswer.specs.ErrWord.{error_line}
 use Rattle.nutanswer.specs.View.{Seen, AskerSeen, usable, readiness}
 use Rattle.nutanswer.specs.Checks.{◌>>=◌, ◌>>◌, KnownUps, ups_named, user, var_not_lawful, cmd_not_lawful, already_set_username, already_set_password, already_logged_in, readonly, too_long_of_command, invalid_value, no_id, set_failed, instcmd_failed, unknown_id, cmd_not_supported}
 use Rattle.nutanswer.specs.Orders.{is_short_enough, is_listed, is_in_ranges, right_to, set_line, instcmd_line, order, ok_words, instcmd_right}
-use Rattle.nutanswer.specs.Answer.{Answer, one_line, ok, answer_to, change_of_answer, text_of_answer}
+use Rattle.nutanswer.specs.Answer.{Answer, one_line, ok, description_at, answer_to, change_of_answer, text_of_answer}
 use Rattle.nutanswer.specs.Rows.{HasRight, value_given, IsIdOfOrder, EachChangeComesOfItsCommand, EachOrderAnsweredOkIsGiven}
 use Rattle.nutanswer.specs.Laws.{OnlyOkChanges, RefusedLinesChangeNothing, EachAnswerIsALineOrAListing, WhatIsToldIsFresh}
 use Rattle.nutwords.specs.declared.faults.BadLine.{BadLine}
@@ -31,7 +31,7 @@ use Rattle.std.proofs.lemmas.List.Elements.{All-filter}
 use Rattle.nutdriver.specs.Sound.{IsSoundRange}
 use Rattle.nutusers.specs.Descriptions.{text_at}
 use Rattle.nutusers.specs.UpsList.{IsLawfulUps}
-use Rattle.nutlisting.specs.Shown.{shown, description_of}
+use Rattle.nutlisting.specs.Shown.{shown, description_of, text_or_unavailable}
 use Rattle.nutanswer.proofs.CheckLemmas as checks
 use Rattle.nutanswer.proofs.CheckLemmas.{unless_ok, none_given, both_true, has_right}
 use Rattle.nutanswer.proofs.Fresh as fresh
@@ -41,7 +41,7 @@ use Rattle.nutlisting.specs.Lawful.{IsSoundEntry}
 use Rattle.nutlisting.proofs.PublicLaws.{ids_are_lawful, texts_are_lawful}
 use Rattle.nutlisting.specs.declared.lines.TheConstants.{SHOWN_LIMIT}
 use Rattle.nutwords.specs.declared.limits.TheConstants.{VALUE_LIMIT}
-use Rattle.nutanswer.proofs.Shapes.{listing_shaped, items_of, line_shaped, ok_shaped, on_or_off_plain, progress_found, entry_item, command_inside, enum_inside, range_inside, ups_inside, client_inside, text_lawful, name_found, lawful_known, lawful_found, variables_of, count_plain, lawful_clients}
+use Rattle.nutanswer.proofs.Shapes.{listing_shaped, items_of, line_shaped, ok_shaped, on_or_off_plain, progress_found, entry_item, command_inside, enum_inside, range_inside, ups_inside, client_inside, text_lawful, name_found, lawful_known, description_lawful, lawful_found, variables_of, count_plain, lawful_clients}
 use Rattle.nutanswer.proofs.TableRows.{IsRow, refused, tells, lists, lists_clients, does, orders, held, found, of_ups, of_usable, of_variable}
 
 -- SET VAR and INSTCMD, where their checks hold: what holds of each refusal, and of what the checks let through, holds of the row
@@ -152,8 +152,7 @@ module _ (s : Seen) (asker : AskerSeen) where
       (refl, ((lawful_known s seen ups u h.0 named).name, (name_found name CmdNotSupported c h.1 is, (quoted_plain VALUE_LIMIT (description_of (text_at s.descriptions.cmds c)) (text_lawful s.descriptions.cmds c seen.descriptions.cmds), tt)))))))
   row (GetUpsDesc ups) =
       of_ups ups (λ u named. tells _ refl (λ seen h.
-      let k = lawful_known s seen ups u h named in
-      (refl, (k.name, (quoted_plain VALUE_LIMIT u.description k.description, tt)))))
+      (refl, ((lawful_known s seen ups u h named).name, (quoted_plain VALUE_LIMIT (text_or_unavailable (description_at s u.id)) (description_lawful s seen u.id), tt)))))
   row (GetNumLogins ups) = of_ups ups (λ u named. tells _ refl (λ seen h. (refl, count_plain s seen ups u h named)))
   row (GetNumAttach ups) = of_ups ups (λ u named. tells _ refl (λ seen h. (refl, count_plain s seen ups u h named)))
   row GetTracking = tells _ refl (λ seen h. (refl, (on_or_off_plain asker.tracking, tt)))

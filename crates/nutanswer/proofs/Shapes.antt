@@ -4,7 +4,7 @@ use Rattle.std.specs.Prelude.{codes, map, filter, slice_get, All, IsTrue, IfSome
 use Rattle.std.specs.Fmt.{decimal, signed_decimal}
 use Rattle.std.specs.List.{AllByRecursion, concat, find, join_with_byte}
 use Rattle.std.specs.BTreeMap.{is_at}
-use Rattle.std.specs.Option.{ok_or, option_map}
+use Rattle.std.specs.Option.{ok_or, option_map, option_and_then}
 use Rattle.std.proofs.lemmas.Bool.{cond_both}
 use Rattle.std.proofs.lemmas.Int.{ints}
 use Rattle.std.proofs.lemmas.List.{append-nil}
@@ -27,11 +27,12 @@ use Rattle.nutdriver.specs.declared.range.Range.{Range}
 use Rattle.nutusers.specs.Descriptions.{Texts, text_at, AreLawfulTexts}
 use Rattle.nutusers.specs.Texts.{is_description}
 use Rattle.nutusers.specs.UpsList.{Ups, IsLawfulUps}
+use Rattle.nutusers.specs.declared.ups_list.UpsId.{UpsId}
 use Rattle.nutwords.specs.declared.limits.TheConstants.{VALUE_LIMIT}
 use Rattle.nutlisting.specs.declared.lines.TheConstants.{SHOWN_LIMIT}
 use Rattle.nutlisting.specs.Lawful.{IsLawfulText, IsSoundEntry}
 use Rattle.nutlisting.specs.Items.{ups_item, variable_item, command_item, enum_item, range_item, client_item}
-use Rattle.nutlisting.specs.Shown.{shown, description_of, ups_description}
+use Rattle.nutlisting.specs.Shown.{shown, description_of, text_or_unavailable, ups_description}
 use Rattle.nutlisting.proofs.PublicLaws.{ids_are_lawful, texts_are_lawful, lawful_words_are_a_line, sound_entries}
 use Rattle.nutanswer.specs.declared.err_word.ErrWord.{ErrWord}
 use Rattle.nutanswer.specs.declared.err_word.ErrWord.TheVariants.{VarNotSupported, InvalidArgument}
@@ -39,7 +40,7 @@ use Rattle.nutanswer.specs.ErrWord.{spelling_of}
 use Rattle.nutanswer.specs.View.{Seen, UpsSeen, ClientSeen, is_logged_in, login_count, addresses_at}
 use Rattle.nutanswer.specs.Checks.{KnownUps, ups_named, variable_named, var_not_supported, unknown_id}
 use Rattle.nutanswer.specs.Orders.{ok_words, on_or_off_word}
-use Rattle.nutanswer.specs.Answer.{Answer, ok, text_of_answer}
+use Rattle.nutanswer.specs.Answer.{Answer, ok, text_of_answer, description_at}
 use Rattle.nutanswer.specs.Command.{HasLawfulName, HasLawfulUpsName}
 use Rattle.nutanswer.specs.Laws.{IsLawfulSeen}
 use Rattle.nutanswer.proofs.ErrorLemmas.{error_lawful}
@@ -152,7 +153,6 @@ name_found (Some name) word v h e = let same : name ≡ v = cc e in (texts_are_l
 -- a UPS that is found
 pub record IsLawfulKnown (u : KnownUps) : Type 0 where
   pub name : IsPlain u.name
-  pub description : IsLawfulText VALUE_LIMIT u.description
   pub tree : IsSoundTree u.state.report.tree
 
 pub record IsLawfulFound (u : KnownUps) (v : List ℕ × VariableState) : Type 0 where
@@ -166,9 +166,16 @@ module _ (s : Seen) (seen : IsLawfulSeen s) where
       let is = named_is_seen s ups u named in
       record {
         name = (texts_are_lawful.ups_names u.name (h u.name is.name_is)).lawful;
-        description = subst (IsLawfulText VALUE_LIMIT) (sym is.described) (texts_are_lawful.ups_described is.listed.desc (at_place IsLawfulUps s.list u.id.place is.listed seen.list is.in_list).description);
         tree = at_place (λ (x : UpsSeen). IsSoundTree x.report.tree) s.upses u.id.place u.state seen.trees is.stands;
       }
+
+  -- the description of a UPS of the list
+  pub description_lawful : (u : UpsId) → IsLawfulText VALUE_LIMIT (text_or_unavailable (description_at s u))
+  description_lawful u = texts_are_lawful.ups_described (description_at s u) (by_listed (slice_get s.list u.place) refl)
+    where
+      by_listed : (o : Option Ups) → slice_get s.list u.place ≡ o → IfSome (option_and_then (λ ups. ups.desc) o) (λ text. IsTrue (is_description text))
+      by_listed None e = tt
+      by_listed (Some ups) e = (at_place IsLawfulUps s.list u.place ups seen.list e).description
 
   -- of a variable that is found
   pub lawful_found : (ups name : Option (List ℕ)) (u : KnownUps) (v : List ℕ × VariableState) → HasLawfulUpsName ups × HasLawfulName name → ups_named s ups ≡ Some u → var_not_supported u name ≡ Ok v → IsLawfulFound u v

@@ -1,12 +1,14 @@
 -- The table of answers (RFC 9271): a command's checks, its answer and its change.
 use Rattle.std.specs.Prelude.{◌≡◌, ℕ, Bool, true, false, List, [], ◌∷◌, codes, Option, Some}
-use Rattle.std.specs.Prelude.{Result, Ok, Err}
+use Rattle.std.specs.Prelude.{Result, Ok, Err, slice_get}
+use Rattle.std.specs.Option.{option_and_then}
 use Rattle.std.specs.Fmt.{decimal}
 use Rattle.nutwords.specs.Frame.{line_of}
 use Rattle.nuttracking.specs.Id.{id_text}
 use Rattle.nutwords.specs.Spelling.{quoted}
 use Rattle.nutusers.specs.Descriptions.{text_at}
 use Rattle.nutusers.specs.declared.rights.Right.TheVariants as rights
+use Rattle.nutusers.specs.declared.ups_list.UpsId.{UpsId}
 use Rattle.nutanswer.specs.declared.command.Command.{Command}
 use Rattle.nutanswer.specs.declared.command.Command.TheVariants.{Username, Password, Login, Logout}
 use Rattle.nutanswer.specs.declared.command.Command.TheVariants.{Primary, Fsd, SetVar, InstCmd}
@@ -29,7 +31,7 @@ use Rattle.nutanswer.specs.declared.reply.Reply.TheVariants.{One, Many, Clients}
 use Rattle.nutanswer.specs.ErrWord.{error_line}
 use Rattle.nutlisting.specs.Lines.{IsWholeLine}
 use Rattle.nutanswer.specs.View.{Seen, AskerSeen, login_count, addresses_at}
-use Rattle.nutlisting.specs.Shown.{shown, description_of}
+use Rattle.nutlisting.specs.Shown.{shown, description_of, text_or_unavailable}
 use Rattle.nutlisting.specs.Types.{type_words}
 use Rattle.nutlisting.specs.Tracked.{progress_words}
 use Rattle.nutlisting.specs.Items.{ListingState, text_of, ups_listing, variable_listing, rw_listing}
@@ -65,6 +67,10 @@ abbrev pub count_of_logins : List ℕ → Seen → Option (List ℕ) → Result 
 count_of_logins kind s ups = do
   u ← unknown_ups s ups
   told (kind ∷ u.name ∷ decimal (login_count u.id s.clients) ∷ [])
+
+-- The description of a UPS of the list, if it has one.
+abbrev pub description_at : Seen → UpsId → Option (List ℕ)
+description_at s u = option_and_then (λ ups. ups.desc) (slice_get s.list u.place)
 
 -- The table.
 abbrev pub answer_to : Seen → AskerSeen → Command → Result Answer ErrWord
@@ -131,7 +137,7 @@ answer_to s asker (GetCmdDesc ups name) = do
   told (codes "CMDDESC" ∷ u.name ∷ c ∷ quoted (description_of (text_at s.descriptions.cmds c)) ∷ [])
 answer_to s asker (GetUpsDesc ups) = do
   u ← unknown_ups s ups
-  told (codes "UPSDESC" ∷ u.name ∷ quoted u.description ∷ [])
+  told (codes "UPSDESC" ∷ u.name ∷ quoted (text_or_unavailable (description_at s u.id)) ∷ [])
 answer_to s asker (GetNumLogins ups) = count_of_logins (codes "NUMLOGINS") s ups
 answer_to s asker (GetNumAttach ups) = count_of_logins (codes "NUMATTACH") s ups
 answer_to s asker GetTracking = told (codes "TRACKING" ∷ on_or_off_word asker.tracking ∷ [])

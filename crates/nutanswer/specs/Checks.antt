@@ -7,7 +7,7 @@ use Rattle.nuttracking.specs.Tracking.{next_id, progress_of}
 use Rattle.nuttracking.specs.declared.order.Progress.{Progress}
 use Rattle.nutdriver.specs.Tree.{TreeState, variable_at, has_command}
 use Rattle.nutdriver.specs.Variable.{VariableState}
-use Rattle.nutusers.specs.UpsList.{Ups, place_of, id_at}
+use Rattle.nutusers.specs.UpsList.{place_of, id_at}
 use Rattle.nutusers.specs.Users.{may}
 use Rattle.nutusers.specs.declared.rights.Right.{Right}
 use Rattle.nutusers.specs.declared.ups_list.UpsId.{UpsId}
@@ -22,7 +22,6 @@ use Rattle.nutanswer.specs.declared.err_word.ErrWord.TheVariants.{UsernameRequir
 use Rattle.nutanswer.specs.declared.err_word.ErrWord.TheVariants.{PasswordRequired, Readonly}
 use Rattle.nutanswer.specs.declared.err_word.ErrWord.TheVariants.{TooLong, InvalidValue, SetFailed}
 use Rattle.nutanswer.specs.declared.err_word.ErrWord.TheVariants.{InstcmdFailed}
-use Rattle.nutlisting.specs.Shown.{ups_description}
 use Rattle.nutanswer.specs.View.{Seen, AskerSeen, UpsSeen, Readiness, not_connected, stale, usable}
 use Rattle.nutanswer.specs.View.{readiness}
 use Rattle.nutanswer.specs.Orders.{is_short_enough, is_listed, is_in_ranges}
@@ -43,23 +42,18 @@ abbrev pub ◌>>◌ : {B : Type 0} → Result (Unit {0}) ErrWord → Result B Er
 abbrev pub unless : Bool → ErrWord → Result (Unit {0}) ErrWord
 unless holds word = if holds then Ok tt else Err word
 
--- A UPS that is there: its name, its description as clients see it, the name that the server
--- has for it, and what is known of it.
+-- A UPS that is there: its name, the name that the server has for it, and what is known of it.
 pub record KnownUps : Type 0 where
   pub name : List ℕ
-  pub description : List ℕ
   pub id : UpsId
   pub state : UpsSeen
 
-abbrev pub known : List ℕ → ℕ → Ups → UpsSeen → KnownUps
-known name place listed x =
-    record { name = name; description = ups_description listed; id = id_at place; state = x }
+abbrev pub known : List ℕ → ℕ → UpsSeen → KnownUps
+known name place x = record { name = name; id = id_at place; state = x }
 
 -- The UPS at this place of the list, where there is one.
 abbrev pub ups_at : Seen → List ℕ → ℕ → Option KnownUps
-ups_at s name place =
-    option_and_then (λ listed. option_map (known name place listed) (slice_get s.upses place))
-    (slice_get s.list place)
+ups_at s name place = option_map (known name place) (slice_get s.upses place)
 
 -- The UPS of this name. Where the word is no lawful name, or the list has no such UPS, there is
 -- none.

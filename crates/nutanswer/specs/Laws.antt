@@ -6,14 +6,13 @@ use Rattle.nutwords.specs.Answers.{IsAnswer}
 use Rattle.nutwords.specs.Reading.{is_name, is_value, is_address}
 use Rattle.nuttracking.specs.Sound.{HaveLawfulNumbers}
 use Rattle.nutdriver.specs.Sound.{IsSoundTree}
-use Rattle.nutusers.specs.UpsList.{Ups, IsLawfulUps}
+use Rattle.nutusers.specs.UpsList.{IsLawfulUps, place_of}
 use Rattle.nutusers.specs.Descriptions.{AreLawful}
 use Rattle.nutusers.specs.declared.ups_list.UpsId.{UpsId}
 use Rattle.nutanswer.specs.declared.command.Command.{Command}
 use Rattle.nutanswer.specs.declared.err_word.ErrWord.{ErrWord}
 use Rattle.nutanswer.specs.declared.reply.Change.TheVariants.{Nothing}
 use Rattle.nutlisting.specs.Lines.{IsWholeLine}
-use Rattle.nutlisting.specs.Shown.{ups_description}
 use Rattle.nutlisting.specs.declared.listing.clients.TheConstants.{SESSION_LIMIT}
 use Rattle.nutanswer.specs.ErrWord.{error_line}
 use Rattle.nutanswer.specs.View.{Seen, AskerSeen, UpsSeen}
@@ -48,14 +47,12 @@ OnlyOkChanges =
     → is_ok_line (answer_to s asker command) ≡ false
     → change_of_answer (answer_to s asker command) ≡ Nothing
 
--- The UPS has this name, and stands at its place among those seen, and in the list, which has its
--- description.
+-- The UPS has this name, and stands at the place of its name in the list, and at the same among
+-- those seen.
 pub record IsSeen (s : Seen) (ups : Option (List ℕ)) (u : KnownUps) : Type 0 where
   pub name_is : ups ≡ Some u.name
+  pub in_list : place_of u.name s.list ≡ Some u.id.place
   pub stands : slice_get s.upses u.id.place ≡ Some u.state
-  pub listed : Ups
-  pub in_list : slice_get s.list u.id.place ≡ Some listed
-  pub described : u.description ≡ ups_description listed
 
 -- A UPS that is named is one of those seen.
 abbrev pub ANamedUpsIsSeen : Type 0

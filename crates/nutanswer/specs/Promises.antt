@@ -2,16 +2,13 @@
 -- none of it.
 use denote.Ref.{Bor}
 use Rattle.std.specs.Prelude.{◌≡◌, ℕ, false, List, Option, None, Result, Ok, Err, IsTrue}
-use Rattle.std.specs.Option.{option_copied}
 use Rattle.nutdriver.specs.Variable.{VariableState}
-use Rattle.nutusers.specs.UpsList.{new_ups}
 use Rattle.nutanswer.specs.declared.err_word.ErrWord.{ErrWord}
 use Rattle.nutanswer.specs.declared.checks.Known.{Known}
 use Rattle.nutanswer.specs.declared.command.Command.{Command}
 use Rattle.nutanswer.specs.declared.reply.Change.TheVariants.{Nothing}
 use Rattle.nutanswer.specs.declared.reply.Reply.{Reply}
 use Rattle.nutanswer.specs.declared.reply.Reply.TheVariants.{One, Many, Clients}
-use Rattle.nutlisting.specs.Shown.{ups_description}
 use Rattle.nutanswer.specs.View.{Seen, AskerSeen, ups_seen}
 use Rattle.nutanswer.specs.Checks.{◌>>=◌, ◌>>◌, KnownUps, unknown_ups, live, var_not_supported}
 use Rattle.nutanswer.specs.Checks.{cmd_not_supported, readonly, too_long, invalid_value}
@@ -20,13 +17,7 @@ use Rattle.nutanswer.specs.Answer.{Answer, listing, answer_to, shares_version, I
 
 -- The UPS that was found.
 abbrev pub known_ups : Known → KnownUps
-known_ups k =
-    record {
-      name = k.name.now;
-      description = ups_description (record (new_ups k.name.now) { desc = option_copied k.desc });
-      id = k.id;
-      state = ups_seen k.state;
-    }
+known_ups k = record { name = k.name.now; id = k.id; state = ups_seen k.state }
 
 -- The UPS and the variable that were found.
 abbrev pub known_variable

@@ -13,15 +13,13 @@ ghost use Rattle.nutanswer.specs.declared.command.Command.TheVariants.{GetVar, G
 mod orders;
 mod session;
 
-use crate::checks::{known_ups, live_ups, live_variable};
 use crate::err_word::Checked;
-use crate::{Asker, Change, Command, ErrWord, NameWord, Reply, UpsWord, View};
+use crate::{Asker, Change, Command, ErrWord, NameWord, Peers, Reply, UpsWord, View};
 use nutlisting::{
     Listing, count_line_into, described, type_line_into, ups_line_into, value_line_into,
     variable_line_into,
 };
 use nutwords::Line;
-use orders::{inst_cmd, progress, set_var};
 use std::alloc::AllocError;
 
 /// The reply of a row, or the word of its error.
@@ -39,46 +37,46 @@ type Listed = Checked<Result<Listing, AllocError>>;
 /// # Errors
 ///
 /// `AllocError` where a listing is due that shares a version, and memory is refused.
-pub fn answer<'a, V: View>(
-    view: &V,
+pub fn answer<'a, P: Peers>(
+    view: &View<'_, P>,
     asker: Asker<'_>,
     command: &Command<'_>,
     line: &'a mut Line,
 ) -> Result<Reply<'a>, AllocError>
     ensures ok { IfOk result
-        (IsReply (V.seen view.now)
-        (answer_to (V.seen view.now) (asker_seen asker.entry) command.now)) }
+        (IsReply view.now
+        (answer_to view.now (asker_seen asker.entry) command.now)) }
     ensures memory { OnErr result
         (IsTrue (shares_version
-        (answer_to (V.seen view.now) (asker_seen asker.entry) command.now))) }
+        (answer_to view.now (asker_seen asker.entry) command.now))) }
 {
     // A listing shares a version, for which memory may be refused; each other row is answered by its line.
     let row = match command {
         Command::Username(name) => session::username(asker, name),
         Command::Password(password) => session::password(asker, password, line),
-        Command::Login(ups) => session::login(view, asker, ups),
+        Command::Login(ups) => view.login(asker, ups),
         Command::Logout => Ok(Reply::One(b"OK Goodbye\n", Change::Ending)),
-        Command::Primary(ups) => session::primary(view, asker, ups),
-        Command::Fsd(ups) => session::fsd(view, asker, ups),
-        Command::SetVar(ups, name, value) => set_var(view, asker, ups, name, value, line),
-        Command::InstCmd(ups, name, value) => inst_cmd(view, asker, ups, name, value, line),
+        Command::Primary(ups) => view.primary(asker, ups),
+        Command::Fsd(ups) => view.fsd(asker, ups),
+        Command::SetVar(ups, name, value) => view.set_var(asker, ups, name, value, line),
+        Command::InstCmd(ups, name, value) => view.inst_cmd(asker, ups, name, value, line),
         Command::SetTracking(on) => Ok(ok(Change::Tracking(*on))),
-        Command::GetVar(ups, name) => made(get_var(view, ups, name, line), line),
-        Command::GetType(ups, name) => made(get_type(view, ups, name, line), line),
-        Command::GetDesc(ups, name) => made(get_desc(view, ups, name, line), line),
-        Command::GetCmdDesc(ups, name) => made(get_cmd_desc(view, ups, name, line), line),
-        Command::GetUpsDesc(ups) => made(get_ups_desc(view, ups, line), line),
-        Command::GetNumLogins(ups) => made(num_logins(view, b"NUMLOGINS", ups, line), line),
-        Command::GetNumAttach(ups) => made(num_logins(view, b"NUMATTACH", ups, line), line),
+        Command::GetVar(ups, name) => made(view.get_var(ups, name, line), line),
+        Command::GetType(ups, name) => made(view.get_type(ups, name, line), line),
+        Command::GetDesc(ups, name) => made(view.get_desc(ups, name, line), line),
+        Command::GetCmdDesc(ups, name) => made(view.get_cmd_desc(ups, name, line), line),
+        Command::GetUpsDesc(ups) => made(view.get_ups_desc(ups, line), line),
+        Command::GetNumLogins(ups) => made(view.num_logins(b"NUMLOGINS", ups, line), line),
+        Command::GetNumAttach(ups) => made(view.num_logins(b"NUMATTACH", ups, line), line),
         Command::GetTracking => session::get_tracking(asker),
-        Command::GetProgress(id) => made(progress(view, *id, line), line),
-        Command::ListUps => return listed(Ok(Listing::of_upses(view.list()))),
-        Command::ListVar(ups) => return listed(list_var(view, ups)),
-        Command::ListRw(ups) => return listed(list_rw(view, ups)),
-        Command::ListCmd(ups) => return listed(list_cmd(view, ups)),
-        Command::ListEnum(ups, name) => return listed(list_enum(view, ups, name)),
-        Command::ListRange(ups, name) => return listed(list_range(view, ups, name)),
-        Command::ListClient(ups) => session::list_client(view, ups),
+        Command::GetProgress(id) => made(view.progress(*id, line), line),
+        Command::ListUps => return listed(Ok(Listing::of_upses(view.list))),
+        Command::ListVar(ups) => return listed(view.list_var(ups)),
+        Command::ListRw(ups) => return listed(view.list_rw(ups)),
+        Command::ListCmd(ups) => return listed(view.list_cmd(ups)),
+        Command::ListEnum(ups, name) => return listed(view.list_enum(ups, name)),
+        Command::ListRange(ups, name) => return listed(view.list_range(ups, name)),
+        Command::ListClient(ups) => view.list_client(ups),
         Command::Help => plain(
             b"Commands: HELP VER NETVER PROTVER GET LIST SET INSTCMD LOGIN LOGOUT PRIMARY FSD USERNAME PASSWORD STARTTLS\n",
         ),
@@ -95,73 +93,122 @@ pub fn answer<'a, V: View>(
 // The rows stay calls of their own: what is inlined here is cleared for each command, also where another one was asked
 // for. Each reads its words itself.
 
-/// GET VAR.
-#[inline(never)]
-fn get_var<V: View>(view: &V, ups: &UpsWord<'_>, name: &NameWord<'_>, line: &mut Line) -> Made
-    ensures { GivesLine (row (V.seen view.now) (GetVar ups.now name.now)) result line.new.items }
-{
-    let name = name.read();
-    let (ups, name, variable) = live_variable(view, ups, &name)?;
-    variable_line_into(b"VAR", ups.name, ups.state.fsd, name, variable, line);
-    Ok(())
-}
+impl<P: Peers> View<'_, P> {
+    /// GET VAR.
+    #[inline(never)]
+    fn get_var(&self, ups: &UpsWord<'_>, name: &NameWord<'_>, line: &mut Line) -> Made
+        ensures { GivesLine (row self.now (GetVar ups.now name.now)) result line.new.items }
+    {
+        let name = name.read();
+        let (ups, name, variable) = self.live_variable(ups, &name)?;
+        variable_line_into(b"VAR", ups.name, ups.state.fsd, name, variable, line);
+        Ok(())
+    }
 
-/// GET TYPE.
-#[inline(never)]
-fn get_type<V: View>(view: &V, ups: &UpsWord<'_>, name: &NameWord<'_>, line: &mut Line) -> Made
-    ensures { GivesLine (row (V.seen view.now) (GetType ups.now name.now)) result line.new.items }
-{
-    let name = name.read();
-    let (ups, name, variable) = live_variable(view, ups, &name)?;
-    type_line_into(ups.name, name, variable, line);
-    Ok(())
-}
+    /// GET TYPE.
+    #[inline(never)]
+    fn get_type(&self, ups: &UpsWord<'_>, name: &NameWord<'_>, line: &mut Line) -> Made
+        ensures { GivesLine (row self.now (GetType ups.now name.now)) result line.new.items }
+    {
+        let name = name.read();
+        let (ups, name, variable) = self.live_variable(ups, &name)?;
+        type_line_into(ups.name, name, variable, line);
+        Ok(())
+    }
 
-/// GET DESC.
-#[inline(never)]
-fn get_desc<V: View>(view: &V, ups: &UpsWord<'_>, name: &NameWord<'_>, line: &mut Line) -> Made
-    ensures { GivesLine (row (V.seen view.now) (GetDesc ups.now name.now)) result line.new.items }
-{
-    let ups = known_ups(view, ups)?;
-    let name = name.read().ok_or(ErrWord::VarNotSupported)?;
-    let text = described(view.descriptions().var(&name));
-    value_line_into(b"DESC", ups.name, &name, text, line);
-    Ok(())
-}
+    /// GET DESC.
+    #[inline(never)]
+    fn get_desc(&self, ups: &UpsWord<'_>, name: &NameWord<'_>, line: &mut Line) -> Made
+        ensures { GivesLine (row self.now (GetDesc ups.now name.now)) result line.new.items }
+    {
+        let ups = self.known_ups(ups)?;
+        let name = name.read().ok_or(ErrWord::VarNotSupported)?;
+        let text = described(self.descriptions.var(&name));
+        value_line_into(b"DESC", ups.name, &name, text, line);
+        Ok(())
+    }
 
-/// GET CMDDESC.
-#[inline(never)]
-fn get_cmd_desc<V: View>(view: &V, ups: &UpsWord<'_>, name: &NameWord<'_>, line: &mut Line) -> Made
-    ensures { GivesLine (row (V.seen view.now) (GetCmdDesc ups.now name.now)) result line.new.items }
-{
-    let ups = known_ups(view, ups)?;
-    let name = name.read().ok_or(ErrWord::CmdNotSupported)?;
-    let text = described(view.descriptions().cmd(&name));
-    value_line_into(b"CMDDESC", ups.name, &name, text, line);
-    Ok(())
-}
+    /// GET CMDDESC.
+    #[inline(never)]
+    fn get_cmd_desc(&self, ups: &UpsWord<'_>, name: &NameWord<'_>, line: &mut Line) -> Made
+        ensures { GivesLine (row self.now (GetCmdDesc ups.now name.now)) result line.new.items }
+    {
+        let ups = self.known_ups(ups)?;
+        let name = name.read().ok_or(ErrWord::CmdNotSupported)?;
+        let text = described(self.descriptions.cmd(&name));
+        value_line_into(b"CMDDESC", ups.name, &name, text, line);
+        Ok(())
+    }
 
-/// GET UPSDESC.
-#[inline(never)]
-fn get_ups_desc<V: View>(view: &V, ups: &UpsWord<'_>, line: &mut Line) -> Made
-    ensures { GivesLine (row (V.seen view.now) (GetUpsDesc ups.now)) result line.new.items }
-{
-    let ups = known_ups(view, ups)?;
-    ups_line_into(b"UPSDESC", ups.name, ups.desc, line);
-    Ok(())
-}
+    /// GET UPSDESC.
+    #[inline(never)]
+    fn get_ups_desc(&self, ups: &UpsWord<'_>, line: &mut Line) -> Made
+        ensures { GivesLine (row self.now (GetUpsDesc ups.now)) result line.new.items }
+    {
+        let ups = self.known_ups(ups)?;
+        ups_line_into(b"UPSDESC", ups.name, self.list.desc(ups.id), line);
+        Ok(())
+    }
 
-/// GET NUMLOGINS and GET NUMATTACH, by the word that their line begins with.
-#[inline(never)]
-fn num_logins<V: View>(view: &V, kind: &[u8], ups: &UpsWord<'_>, line: &mut Line) -> Made
-    requires kind { length kind.now ≤ KIND_LIMIT }
-    requires lawful { IsTrue (list_all is_lawful kind.now) }
-    ensures { GivesLine (count_of_logins kind.now (V.seen view.now) ups.now)
-        result line.new.items }
-{
-    let ups = known_ups(view, ups)?;
-    count_line_into(kind, ups.name, view.login_count(ups.id), line);
-    Ok(())
+    /// GET NUMLOGINS and GET NUMATTACH, by the word that their line begins with.
+    #[inline(never)]
+    fn num_logins(&self, kind: &[u8], ups: &UpsWord<'_>, line: &mut Line) -> Made
+        requires kind { length kind.now ≤ KIND_LIMIT }
+        requires lawful { IsTrue (list_all is_lawful kind.now) }
+        ensures { GivesLine (count_of_logins kind.now self.now ups.now)
+            result line.new.items }
+    {
+        let ups = self.known_ups(ups)?;
+        count_line_into(kind, ups.name, self.peers.login_count(ups.id), line);
+        Ok(())
+    }
+
+    /// LIST VAR.
+    #[inline(never)]
+    fn list_var(&self, ups: &UpsWord<'_>) -> Listed
+        ensures { GivesListing (row self.now (ListVar ups.now)) result }
+    {
+        let ups = self.live_ups(ups)?;
+        Ok(Listing::of_variables(ups.name, ups.state.fsd, &ups.state.report.tree))
+    }
+
+    /// LIST RW.
+    #[inline(never)]
+    fn list_rw(&self, ups: &UpsWord<'_>) -> Listed
+        ensures { GivesListing (row self.now (ListRw ups.now)) result }
+    {
+        let ups = self.live_ups(ups)?;
+        Ok(Listing::of_rw(ups.name, ups.state.fsd, &ups.state.report.tree))
+    }
+
+    /// LIST CMD.
+    #[inline(never)]
+    fn list_cmd(&self, ups: &UpsWord<'_>) -> Listed
+        ensures { GivesListing (row self.now (ListCmd ups.now)) result }
+    {
+        let ups = self.live_ups(ups)?;
+        Ok(Listing::of_commands(ups.name, &ups.state.report.tree))
+    }
+
+    /// LIST ENUM.
+    #[inline(never)]
+    fn list_enum(&self, ups: &UpsWord<'_>, name: &NameWord<'_>) -> Listed
+        ensures { GivesListing (row self.now (ListEnum ups.now name.now)) result }
+    {
+        let name = name.read();
+        let (ups, name, _) = self.live_variable(ups, &name)?;
+        Ok(Listing::of_enum_values(ups.name, name, &ups.state.report.tree))
+    }
+
+    /// LIST RANGE.
+    #[inline(never)]
+    fn list_range(&self, ups: &UpsWord<'_>, name: &NameWord<'_>) -> Listed
+        ensures { GivesListing (row self.now (ListRange ups.now name.now)) result }
+    {
+        let name = name.read();
+        let (ups, name, _) = self.live_variable(ups, &name)?;
+        Ok(Listing::of_ranges(ups.name, name, &ups.state.report.tree))
+    }
 }
 
 /// The reply of a row that made this line.
@@ -207,51 +254,4 @@ pub(crate) fn plain<'a>(line: &'static [u8]) -> Row<'a>
     ensures { (words : List (List ℕ)) → line.now ≡ line_of words → Gives (told words) result }
 {
     Ok(Reply::One(line, Change::Nothing))
-}
-
-/// LIST VAR.
-#[inline(never)]
-fn list_var<V: View>(view: &V, ups: &UpsWord<'_>) -> Listed
-    ensures { GivesListing (row (V.seen view.now) (ListVar ups.now)) result }
-{
-    let ups = live_ups(view, ups)?;
-    Ok(Listing::of_variables(ups.name, ups.state.fsd, &ups.state.report.tree))
-}
-
-/// LIST RW.
-#[inline(never)]
-fn list_rw<V: View>(view: &V, ups: &UpsWord<'_>) -> Listed
-    ensures { GivesListing (row (V.seen view.now) (ListRw ups.now)) result }
-{
-    let ups = live_ups(view, ups)?;
-    Ok(Listing::of_rw(ups.name, ups.state.fsd, &ups.state.report.tree))
-}
-
-/// LIST CMD.
-#[inline(never)]
-fn list_cmd<V: View>(view: &V, ups: &UpsWord<'_>) -> Listed
-    ensures { GivesListing (row (V.seen view.now) (ListCmd ups.now)) result }
-{
-    let ups = live_ups(view, ups)?;
-    Ok(Listing::of_commands(ups.name, &ups.state.report.tree))
-}
-
-/// LIST ENUM.
-#[inline(never)]
-fn list_enum<V: View>(view: &V, ups: &UpsWord<'_>, name: &NameWord<'_>) -> Listed
-    ensures { GivesListing (row (V.seen view.now) (ListEnum ups.now name.now)) result }
-{
-    let name = name.read();
-    let (ups, name, _) = live_variable(view, ups, &name)?;
-    Ok(Listing::of_enum_values(ups.name, name, &ups.state.report.tree))
-}
-
-/// LIST RANGE.
-#[inline(never)]
-fn list_range<V: View>(view: &V, ups: &UpsWord<'_>, name: &NameWord<'_>) -> Listed
-    ensures { GivesListing (row (V.seen view.now) (ListRange ups.now name.now)) result }
-{
-    let name = name.read();
-    let (ups, name, _) = live_variable(view, ups, &name)?;
-    Ok(Listing::of_ranges(ups.name, name, &ups.state.report.tree))
 }

@@ -7,7 +7,7 @@ ghost use Rattle.nutanswer.specs.Orders.{instcmd_right, is_short_enough, is_list
 ghost use Rattle.nutanswer.specs.Promises.{known_ups, known_variable, known_command, found, live_ups, live_variable, live_command, settable};
 
 use crate::err_word::Checked;
-use crate::{Asker, ErrWord, UpsView, UpsWord, ValueWord, View};
+use crate::{Asker, ErrWord, Peers, UpsView, UpsWord, ValueWord, View};
 use nutdriver::{Range, Variable, read_number};
 use nutusers::{Right, UpsId};
 use nutwords::{Name, UpsName, Value};
@@ -16,101 +16,100 @@ use nutwords::{Name, UpsName, Value};
 #[derive(Clone, Copy)]
 pub(crate) struct Known<'a> {
     pub(crate) name: &'a UpsName,
-    pub(crate) desc: Option<&'a Value>,
     pub(crate) id: UpsId,
     pub(crate) state: UpsView<'a>,
 }
 
-/// The session has given the name and the password of a user to whom the right is granted.
-pub(crate) fn user<V: View>(view: &V, asker: Asker<'_>, right: Right<'_>) -> Checked<()>
-    ensures { result ≡ user (V.seen view.now) (asker_seen asker.entry) right.entry }
-{
-    let name = asker.username.ok_or(ErrWord::UsernameRequired)?;
-    let password = asker.password.ok_or(ErrWord::PasswordRequired)?;
-    let users = view.users();
-    if !users.may(name.as_bytes(), password.as_bytes(), right) {
-        return Err(ErrWord::AccessDenied);
+impl<P: Peers> View<'_, P> {
+    /// The session has given the name and the password of a user to whom the right is granted.
+    pub(crate) fn user(&self, asker: Asker<'_>, right: Right<'_>) -> Checked<()>
+        ensures { result ≡ user self.now (asker_seen asker.entry) right.entry }
+    {
+        let name = asker.username.ok_or(ErrWord::UsernameRequired)?;
+        let password = asker.password.ok_or(ErrWord::PasswordRequired)?;
+        if !self.users.may(name.as_bytes(), password.as_bytes(), right) {
+            return Err(ErrWord::AccessDenied);
+        }
+        Ok(())
     }
-    Ok(())
-}
 
-/// The same of the right to a command. A word that is no lawful name is granted to nobody by name.
-pub(crate) fn user_of_command<V: View>(
-    view: &V,
-    asker: Asker<'_>,
-    name: &Option<Name>,
-) -> Checked<()>
-    ensures { result ≡ user (V.seen view.now) (asker_seen asker.entry) (instcmd_right name.now) }
-{
-    match name {
-        Some(name) => user(view, asker, Right::Instcmd(name.as_bytes())),
-        None => user(view, asker, Right::Instcmd(b"")),
+    /// The same of the right to a command. A word that is no lawful name is granted to nobody by name.
+    pub(crate) fn user_of_command(&self, asker: Asker<'_>, name: &Option<Name>) -> Checked<()>
+        ensures { result ≡ user self.now (asker_seen asker.entry) (instcmd_right name.now) }
+    {
+        match name {
+            Some(name) => self.user(asker, Right::Instcmd(name.as_bytes())),
+            None => self.user(asker, Right::Instcmd(b"")),
+        }
     }
-}
 
-/// The UPS of this name.
-pub(crate) fn known_ups<'a, V: View>(view: &'a V, ups: &UpsWord<'_>) -> Checked<Known<'a>>
-    ensures { found known_ups result ≡ unknown_ups (V.seen view.now) ups.now }
-{
-    let mut held = None;
-    let word = ups.bytes(&mut held).ok_or(ErrWord::UnknownUps)?;
-    let list = view.list();
-    let id = list.find(word).ok_or(ErrWord::UnknownUps)?;
-    let name = list.name(id).ok_or(ErrWord::UnknownUps)?;
-    let state = view.ups(id).ok_or(ErrWord::UnknownUps)?;
-    Ok(Known {
-        name,
-        desc: list.desc(id),
-        id,
-        state,
-    })
-}
-
-/// The live UPS of this name: its driver is connected, and its data are right.
-pub(crate) fn live_ups<'a, V: View>(view: &'a V, ups: &UpsWord<'_>) -> Checked<Known<'a>>
-    ensures { found known_ups result ≡ live_ups (V.seen view.now) ups.now }
-{
-    let ups = known_ups(view, ups)?;
-    if !ups.state.report.connected {
-        return Err(ErrWord::DriverNotConnected);
+    /// The UPS of this name.
+    pub(crate) fn known_ups(&self, ups: &UpsWord<'_>) -> Checked<Known<'_>>
+        ensures { found known_ups result ≡ unknown_ups self.now ups.now }
+    {
+        let mut held = None;
+        let word = ups.bytes(&mut held).ok_or(ErrWord::UnknownUps)?;
+        let (id, name) = self.list.find(word).ok_or(ErrWord::UnknownUps)?;
+        let state = self.peers.ups(id).ok_or(ErrWord::UnknownUps)?;
+        Ok(Known { name, id, state })
     }
-    let report = ups.state.report;
-    let age = view.moment().saturating_sub(report.heard);
-    if !report.dumped || !report.ok || age > u64::from(view.max_age()) {
-        return Err(ErrWord::DataStale);
-    }
-    Ok(ups)
-}
 
-/// The live UPS of this name, and the name and the variable of it that the command names.
-pub(crate) fn live_variable<'a, V: View>(
-    view: &'a V,
-    ups: &UpsWord<'_>,
-    name: &'a Option<Name>,
-) -> Checked<(Known<'a>, &'a Name, &'a Variable)>
-    ensures { found known_variable result ≡ live_variable (V.seen view.now) ups.now name.now }
-{
-    let ups = live_ups(view, ups)?;
-    let name = name.as_ref().ok_or(ErrWord::VarNotSupported)?;
-    let tree = &ups.state.report.tree;
-    let variable = tree.get(name).ok_or(ErrWord::VarNotSupported)?;
-    Ok((ups, name, variable))
-}
-
-/// The live UPS of this name, and the name of a command that it has.
-pub(crate) fn live_command<'a, V: View>(
-    view: &'a V,
-    ups: &UpsWord<'_>,
-    name: &'a Option<Name>,
-) -> Checked<(Known<'a>, &'a Name)>
-    ensures { found known_command result ≡ live_command (V.seen view.now) ups.now name.now }
-{
-    let ups = live_ups(view, ups)?;
-    let name = name.as_ref().ok_or(ErrWord::CmdNotSupported)?;
-    if !ups.state.report.tree.has_command(name) {
-        return Err(ErrWord::CmdNotSupported);
+    /// The live UPS of this name: its driver is connected, and its data are right.
+    pub(crate) fn live_ups(&self, ups: &UpsWord<'_>) -> Checked<Known<'_>>
+        ensures { found known_ups result ≡ live_ups self.now ups.now }
+    {
+        let ups = self.known_ups(ups)?;
+        if !ups.state.report.connected {
+            return Err(ErrWord::DriverNotConnected);
+        }
+        let report = ups.state.report;
+        let age = self.moment.saturating_sub(report.heard);
+        if !report.dumped || !report.ok || age > u64::from(self.max_age) {
+            return Err(ErrWord::DataStale);
+        }
+        Ok(ups)
     }
-    Ok((ups, name))
+
+    /// The live UPS of this name, and the name and the variable of it that the command names.
+    pub(crate) fn live_variable<'a>(
+        &'a self,
+        ups: &UpsWord<'_>,
+        name: &'a Option<Name>,
+    ) -> Checked<(Known<'a>, &'a Name, &'a Variable)>
+        ensures { found known_variable result ≡ live_variable self.now ups.now name.now }
+    {
+        let ups = self.live_ups(ups)?;
+        let name = name.as_ref().ok_or(ErrWord::VarNotSupported)?;
+        let tree = &ups.state.report.tree;
+        let variable = tree.get(name).ok_or(ErrWord::VarNotSupported)?;
+        Ok((ups, name, variable))
+    }
+
+    /// The live UPS of this name, and the name of a command that it has.
+    pub(crate) fn live_command<'a>(
+        &'a self,
+        ups: &UpsWord<'_>,
+        name: &'a Option<Name>,
+    ) -> Checked<(Known<'a>, &'a Name)>
+        ensures { found known_command result ≡ live_command self.now ups.now name.now }
+    {
+        let ups = self.live_ups(ups)?;
+        let name = name.as_ref().ok_or(ErrWord::CmdNotSupported)?;
+        if !ups.state.report.tree.has_command(name) {
+            return Err(ErrWord::CmdNotSupported);
+        }
+        Ok((ups, name))
+    }
+
+    /// The id of an order of this session, where its orders are tracked, or this word where none is available.
+    pub(crate) fn order_id(&self, asker: Asker<'_>, failed: ErrWord) -> Checked<Option<u128>>
+        ensures { result ≡ no_id self.now (asker_seen asker.entry) failed }
+    {
+        if !asker.tracking {
+            return Ok(None);
+        }
+        Ok(Some(self.tracking.next_id().ok_or(failed)?))
+    }
 }
 
 /// The value, where it is one, and the variable may be set to it.
@@ -138,20 +137,6 @@ pub(crate) fn command_value(value: &Option<ValueWord<'_>>) -> Checked<Option<Val
         return Ok(None);
     };
     Ok(Some(word.read().ok_or(ErrWord::TooLong)?))
-}
-
-/// The id of an order of this session, where its orders are tracked, or this word where none is available.
-pub(crate) fn order_id<V: View>(
-    view: &V,
-    asker: Asker<'_>,
-    failed: ErrWord,
-) -> Checked<Option<u128>>
-    ensures { result ≡ no_id (V.seen view.now) (asker_seen asker.entry) failed }
-{
-    if !asker.tracking {
-        return Ok(None);
-    }
-    Ok(Some(view.tracking().next_id().ok_or(failed)?))
 }
 
 /// Whether a text is as short as the variable asks for.

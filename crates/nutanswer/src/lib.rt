@@ -15,4 +15,4 @@ pub use command::{Command, NameWord, PasswordWord, TextWord, UpsWord, UserWord, 
 pub use err_word::ErrWord;
 pub use nutlisting::Listing;
 pub use reply::{Change, GivenPassword, OrderLine, Reply};
-pub use view::{Asker, UpsView, View};
+pub use view::{Asker, Peers, UpsView, View};

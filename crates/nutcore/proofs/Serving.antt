@@ -3,6 +3,7 @@ use Rattle.std.proofs.Common.{◌≡◌, ℕ, ◌+◌, ◌<◌, ◌≤◌, true,
 use Rattle.std.proofs.lemmas.Bool.{cases_Bool}
 use Rattle.std.specs.Prelude.{IsTrue, IfOk, OnOk, OnErr, is_err, is_none, option_and_then}
 use Rattle.std.specs.Option.{option_map, option_map_or}
+use denote.Ref.{Bor}
 use Rattle.nutcore.proofs.Common.{Change, Fault, SessionState, ServerState, session, with_session, with_session_changed}
 use Rattle.nutcore.specs.Session.{find, without, IdsRise, new_session}
 use Rattle.std.specs.declared.alloc.AllocError.{AllocError}
@@ -23,7 +24,7 @@ use Rattle.nutanswer.specs.declared.reply.Reply.TheVariants.{One, Clients}
 use Rattle.nutanswer.specs.declared.reply.Change.TheVariants.{Nothing}
 use Rattle.nutlisting.specs.Items.{text_of, client_listing}
 use Rattle.nutlisting.specs.declared.outbox.TheConstants.{OWED_LIMIT}
-use Rattle.nutcore.specs.Promises.{place, IsAt, PumpGives, refused_overlong, IsText, IsLineOrNone, IsShort, Replies, RepliesOrLacks, AnswersEach, text_with, change_in, ListsClients}
+use Rattle.nutcore.specs.Promises.{place, IsAt, PumpGives, refused_overlong, IsLineOrNone, IsShort, Replies, RepliesOrLacks, AnswersEach, text_with, change_in, ListsClients}
 use Rattle.nutcore.proofs.Found.{find_id}
 use Rattle.nutcore.proofs.Changed.{change_is, session_put, notice_id}
 use Rattle.nutcore.proofs.Pumping.{after_line_is, is_next, session_after, session_after_id, line_done}
@@ -183,12 +184,10 @@ left_out l n c i xs rise h =
     let lt : place c xs < length xs = omega (arith, h.first, h.within) in
     without_at l n c xs rise lt ∙ ap (λ j. take j xs ++ drop (j + 1) xs) h.first
 
--- the answer of one line at most that changes nothing is this text
-pub replies_text : (s : ServerState) (c : ℕ) (line text : List ℕ) (r : Result (Option Command) ErrWord) (answer : Reply) → read_command line ≡ r → shares_version_read s c r ≡ false → text_to s c r ≡ text → change_by s c r ≡ Nothing → length text ≤ OWED_LIMIT →
-    IsLineOrNone text → IsText text answer → Replies s c line answer
-replies_text s c line text r (One given change) e shares is none short one (same, nothing) =
-    (ap (shares_version_read s c) e ∙ shares, ap (text_to s c) e ∙ is ∙ sym same, ap (change_by s c) e ∙ none ∙ sym nothing, subst (λ (t : List ℕ). length t ≤ OWED_LIMIT) (sym same) short, subst IsLineOrNone (sym same) one)
-replies_text s c line text r answer e shares is none short one never = absurd never
+-- the answer of one line at most that changes nothing
+pub replies_text : (s : ServerState) (c : ℕ) (line : List ℕ) (text : Bor (List ℕ)) (r : Result (Option Command) ErrWord) → read_command line ≡ r → shares_version_read s c r ≡ false → text_to s c r ≡ text.now → change_by s c r ≡ Nothing → length text.now ≤ OWED_LIMIT →
+    IsLineOrNone text.now → Replies s c line (One text Nothing)
+replies_text s c line text r e shares is none short one = (ap (shares_version_read s c) e ∙ shares, ap (text_to s c) e ∙ is, ap (change_by s c) e ∙ none, short, one)
 
 -- so is the answer to a command
 whole_short : (text : List ℕ) → IsWholeLine text → length text ≤ OWED_LIMIT

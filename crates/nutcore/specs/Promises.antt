@@ -162,12 +162,6 @@ OrderFits change upses =
     (u : UpsId) (line : List ℕ) (id : Option ℕ) (x : UpsState) → change ≡ order u line id
     → slice_get upses u.place ≡ Some x → TakesLine line x
 
--- it is this text, and changes nothing
-abbrev pub IsText : List ℕ → Reply → Type 0
-IsText text (One line change) = (line.now ≡ text) × (change ≡ Nothing)
-IsText text (Many listing) = ⊥
-IsText text (Clients name u) = ⊥
-
 -- or memory was refused for a listing
 abbrev pub RepliesOrLacks : ServerState → ℕ → List ℕ → Result Reply AllocError → Type 0
 RepliesOrLacks s c line (Ok answer) = Replies s c line answer

@@ -175,7 +175,8 @@ impl Server {
     pub fn find(&self, name: &[u8]) -> Option<UpsId>
         ensures { result ≡ option_map id_at (place_of name.now self.now.state.list) }
     {
-        self.list.find(name)
+        let (u, _) = self.list.find(name)?;
+        Some(u)
     }
 
     /// A driver connects. It is owed `DUMPALL`, and what an earlier one reported is gone. Takes no

@@ -7,8 +7,9 @@ ghost use Rattle.nutanswer.specs.Promises.{Gives, GivesReply, row};
 ghost use Rattle.nutanswer.specs.declared.command.Command.TheVariants.{Username, Password, Login, Primary, Fsd, GetTracking, ListClient};
 
 use super::{Row, ok, plain};
-use crate::checks::{known_ups, user};
-use crate::{Asker, Change, ErrWord, GivenPassword, PasswordWord, Reply, UpsWord, UserWord, View};
+use crate::{
+    Asker, Change, ErrWord, GivenPassword, PasswordWord, Peers, Reply, UpsWord, UserWord, View,
+};
 use nutusers::Right;
 use nutwords::Line;
 
@@ -42,40 +43,51 @@ pub(crate) fn password<'a>(
     Ok(ok(Change::Password(GivenPassword::made(&password, line))))
 }
 
-/// LOGIN.
-#[inline(never)]
-pub(crate) fn login<'a, V: View>(view: &V, asker: Asker<'_>, ups: &UpsWord<'_>) -> Row<'a>
-    ensures { Gives
-        (answer_to (V.seen view.now) (asker_seen asker.entry) (Login ups.now)) result }
-{
-    user(view, asker, Right::Login)?;
-    let ups = known_ups(view, ups)?;
-    if asker.login.is_some() {
-        return Err(ErrWord::AlreadyLoggedIn);
+impl<P: Peers> View<'_, P> {
+    /// LOGIN.
+    #[inline(never)]
+    pub(crate) fn login<'a>(&self, asker: Asker<'_>, ups: &UpsWord<'_>) -> Row<'a>
+        ensures { Gives
+            (answer_to self.now (asker_seen asker.entry) (Login ups.now)) result }
+    {
+        self.user(asker, Right::Login)?;
+        let ups = self.known_ups(ups)?;
+        if asker.login.is_some() {
+            return Err(ErrWord::AlreadyLoggedIn);
+        }
+        Ok(ok(Change::Login(ups.id)))
     }
-    Ok(ok(Change::Login(ups.id)))
-}
 
-/// PRIMARY.
-#[inline(never)]
-pub(crate) fn primary<'a, V: View>(view: &V, asker: Asker<'_>, ups: &UpsWord<'_>) -> Row<'a>
-    ensures { Gives
-        (answer_to (V.seen view.now) (asker_seen asker.entry) (Primary ups.now)) result }
-{
-    user(view, asker, Right::Primary)?;
-    known_ups(view, ups)?;
-    Ok(ok(Change::Nothing))
-}
+    /// PRIMARY.
+    #[inline(never)]
+    pub(crate) fn primary<'a>(&self, asker: Asker<'_>, ups: &UpsWord<'_>) -> Row<'a>
+        ensures { Gives
+            (answer_to self.now (asker_seen asker.entry) (Primary ups.now)) result }
+    {
+        self.user(asker, Right::Primary)?;
+        self.known_ups(ups)?;
+        Ok(ok(Change::Nothing))
+    }
 
-/// FSD.
-#[inline(never)]
-pub(crate) fn fsd<'a, V: View>(view: &V, asker: Asker<'_>, ups: &UpsWord<'_>) -> Row<'a>
-    ensures { Gives
-        (answer_to (V.seen view.now) (asker_seen asker.entry) (Fsd ups.now)) result }
-{
-    user(view, asker, Right::Fsd)?;
-    let ups = known_ups(view, ups)?;
-    Ok(Reply::One(b"OK FSD-SET\n", Change::Fsd(ups.id)))
+    /// FSD.
+    #[inline(never)]
+    pub(crate) fn fsd<'a>(&self, asker: Asker<'_>, ups: &UpsWord<'_>) -> Row<'a>
+        ensures { Gives
+            (answer_to self.now (asker_seen asker.entry) (Fsd ups.now)) result }
+    {
+        self.user(asker, Right::Fsd)?;
+        let ups = self.known_ups(ups)?;
+        Ok(Reply::One(b"OK FSD-SET\n", Change::Fsd(ups.id)))
+    }
+
+    /// LIST CLIENT.
+    #[inline(never)]
+    pub(crate) fn list_client<'a>(&self, ups: &UpsWord<'_>) -> Row<'a>
+        ensures { GivesReply self.now (row self.now (ListClient ups.now)) result }
+    {
+        let ups = self.known_ups(ups)?;
+        Ok(Reply::Clients(ups.name.copied(), ups.id))
+    }
 }
 
 /// GET TRACKING.
@@ -87,13 +99,4 @@ pub(crate) fn get_tracking<'a>(asker: Asker<'_>) -> Row<'a>
     } else {
         plain(b"TRACKING OFF\n")
     }
-}
-
-/// LIST CLIENT.
-#[inline(never)]
-pub(crate) fn list_client<'a, V: View>(view: &V, ups: &UpsWord<'_>) -> Row<'a>
-    ensures { GivesReply (V.seen view.now) (row (V.seen view.now) (ListClient ups.now)) result }
-{
-    let ups = known_ups(view, ups)?;
-    Ok(Reply::Clients(ups.name.copied(), ups.id))
 }

@@ -17,12 +17,12 @@ ghost use Rattle.nutcore.specs.declared.TheConstants.{HELD_LIMIT};
 ghost use Rattle.nutcore.specs.declared.note.TheConstants.{NOTE_LIMIT};
 
 use super::Server;
-use super::view::ServerView;
+use super::view::{ServerPeers, reply_to};
 use crate::event::{ClientId, Fault};
 use crate::note::add_line;
 use crate::session::Session;
 use crate::ups::Ups;
-use nutanswer::{Change, Command, Reply};
+use nutanswer::{Change, Command, Reply, View};
 use nutlisting::Clients;
 use nuttracking::Tracking;
 use nutusers::UpsId;
@@ -42,19 +42,21 @@ impl Server {
         ensures noted { OnOk result (self.new.notes ≡ with_next self.old.state c self.old.notes) }
         ensures unnoted { OnErr result (self.new.notes ≡ self.old.notes) }
     {
-        let view = ServerView {
+        let view = View {
             moment: self.moment,
             max_age: self.max_age,
             list: &self.list,
             users: &self.users,
             descriptions: &self.descriptions,
-            upses: &self.upses,
-            sessions: &self.sessions,
             tracking: &self.tracking,
+            peers: ServerPeers {
+                upses: &self.upses,
+                sessions: &self.sessions,
+            },
         };
         let session = &self.sessions[place];
         let read = Command::read(session.next_line(end));
-        let reply = view.reply_to(session.asker(), &read, &mut self.reply_line)?;
+        let reply = reply_to(&view, session.asker(), &read, &mut self.reply_line)?;
         add_line(&mut self.notes, session, &read, &reply);
         let (upses, tracking) = (&mut self.upses, &mut self.tracking);
         let clients = &mut self.scratch.clients;

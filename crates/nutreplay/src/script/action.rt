@@ -197,7 +197,7 @@ fn ups(list: &UpsList, text: &[u8]) -> Option<UpsId>
 {
     let name = UpsName::read(text).ok()?;
     Some(match list.find(name.as_bytes()) {
-        Some(u) => u,
+        Some((u, _)) => u,
         None => UpsId { place: UNLISTED },
     })
 }

@@ -1,6 +1,6 @@
-use Rattle.std.proofs.Common.{[], ◌∷◌, Ok, refl, inl, inr}
+use Rattle.std.proofs.Common.{[], ◌∷◌, Ok, refl, ap, inl, inr}
 use Rattle.std.specs.Prelude.{codes}
-use Rattle.nutanswer.specs.View.{asker_seen}
+use Rattle.nutanswer.specs.View.{Seen, asker_seen}
 use Rattle.nutanswer.specs.declared.reply.Change.TheVariants.{Ending}
 use Rattle.nutanswer.specs.Answer.{answer_to, help_text}
 use Rattle.nutanswer.specs.Promises.{GivesReply}
@@ -19,7 +19,7 @@ plain-row-requires-in-NetVer g c = own_line (codes "1.3") refl refl
 
 pub returns-clause-ok : goal.returns-clause-ok
 returns-clause-ok g c =
-    let s = g.V.View.seen c.args.view.now in
+    let s = c.args.view.now in
     let a = asker_seen c.args.asker in
     let row : GivesReply s (answer_to s a c.args.command.now) c.match-command.row = elim c.match-command.branch [
       | in-Username w ↦ given s a _ _ _ _ w.in-Username.is w.row-is (w.username-row.ensures s)
@@ -56,31 +56,32 @@ returns-clause-ok g c =
 
 pub returns-in-ListUps-clause-ok : goal.returns-in-ListUps-clause-ok
 returns-in-ListUps-clause-ok g c =
-    let s = g.V.View.seen c.args.view.now in
+    let s = c.args.view.now in
     let a = asker_seen c.args.asker in
-    c.listed.ensures.ok s _ (given_listing s a _ _ (Ok c.of_upses.result) c.in-ListUps.is (ups_listed s a c.list.result.now c.of_upses.result c.list.ensures c.of_upses.ensures))
+    let list = ap (λ (v : Seen). v.list) c.view.view_is in
+    c.listed.ensures.ok s _ (given_listing s a _ _ (Ok c.of_upses.result) c.in-ListUps.is (ups_listed s a c.view.inside.list.now c.of_upses.result list c.of_upses.ensures))
 
 pub returns-in-ListVar-clause-ok : goal.returns-in-ListVar-clause-ok
 returns-in-ListVar-clause-ok g c =
-    let s = g.V.View.seen c.args.view.now in
+    let s = c.args.view.now in
     c.listed-in-ListVar.ensures.ok s _ (given_listing s (asker_seen c.args.asker) _ _ _ c.in-ListVar.is c.list_var.ensures)
 
 pub returns-in-ListRw-clause-ok : goal.returns-in-ListRw-clause-ok
 returns-in-ListRw-clause-ok g c =
-    let s = g.V.View.seen c.args.view.now in
+    let s = c.args.view.now in
     c.listed-in-ListRw.ensures.ok s _ (given_listing s (asker_seen c.args.asker) _ _ _ c.in-ListRw.is c.list_rw.ensures)
 
 pub returns-in-ListCmd-clause-ok : goal.returns-in-ListCmd-clause-ok
 returns-in-ListCmd-clause-ok g c =
-    let s = g.V.View.seen c.args.view.now in
+    let s = c.args.view.now in
     c.listed-in-ListCmd.ensures.ok s _ (given_listing s (asker_seen c.args.asker) _ _ _ c.in-ListCmd.is c.list_cmd.ensures)
 
 pub returns-in-ListEnum-clause-ok : goal.returns-in-ListEnum-clause-ok
 returns-in-ListEnum-clause-ok g c =
-    let s = g.V.View.seen c.args.view.now in
+    let s = c.args.view.now in
     c.listed-in-ListEnum.ensures.ok s _ (given_listing s (asker_seen c.args.asker) _ _ _ c.in-ListEnum.is c.list_enum.ensures)
 
 pub returns-in-ListRange-clause-ok : goal.returns-in-ListRange-clause-ok
 returns-in-ListRange-clause-ok g c =
-    let s = g.V.View.seen c.args.view.now in
+    let s = c.args.view.now in
     c.listed-in-ListRange.ensures.ok s _ (given_listing s (asker_seen c.args.asker) _ _ _ c.in-ListRange.is c.list_range.ensures)

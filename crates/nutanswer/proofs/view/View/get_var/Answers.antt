@@ -6,11 +6,11 @@ use Rattle.nutlisting.specs.Shown.{shown}
 use Rattle.nutanswer.specs.Answer.{told}
 use Rattle.nutanswer.specs.Promises.{live_variable}
 use Rattle.nutanswer.proofs.Rows.{refused_line, without_variable}
-use Rattle.nutanswer.proofs.answers.get_var.Goals as goal
+use Rattle.nutanswer.proofs.view.View.get_var.Goals as goal
 
 pub returns-in_err-ups : goal.returns-in_err-ups
 returns-in_err-ups g c =
-    let s = g.V.View.seen c.args.view.now in
+    let s = c.args.self.now in
     let missing = c.in_err-ups.ensures ∙ ap (live_variable s c.args.ups.now) c.read-name.ensures in
     let p = err_from_is_err_and c.from_residual.result c.from_residual.ensures.1 in
     refused_line _ c.in_err-ups.field-0.0 c.from_residual.result _

@@ -5,11 +5,11 @@ use Rattle.nutlisting.specs.Types.{type_words}
 use Rattle.nutanswer.specs.Answer.{told, shares_version, text_of_answer, change_of_answer}
 use Rattle.nutanswer.specs.Promises.{known_variable, live_variable}
 use Rattle.nutanswer.proofs.Rows.{refused_line, with_variable, without_variable}
-use Rattle.nutanswer.proofs.answers.get_type.Goals as goal
+use Rattle.nutanswer.proofs.view.View.get_type.Goals as goal
 
 pub returns : goal.returns
 returns g c =
-    let s = g.V.View.seen c.args.view.now in
+    let s = c.args.self.now in
     let found = c.in_ok-ups.ensures ∙ ap (live_variable s c.args.ups.now) c.read-name.ensures in
     let k = known_variable (c.in_ok-ups.ups, c.in_ok-ups.name, c.in_ok-ups.variable) in
     let row = with_variable s c.args.ups.now c.args.name.now (λ u v x. told (codes "TYPE" ∷ u.name ∷ v ∷ type_words x)) k found in
@@ -22,7 +22,7 @@ returns g c =
 
 pub returns-in_err-ups : goal.returns-in_err-ups
 returns-in_err-ups g c =
-    let s = g.V.View.seen c.args.view.now in
+    let s = c.args.self.now in
     let missing = c.in_err-ups.ensures ∙ ap (live_variable s c.args.ups.now) c.read-name.ensures in
     let p = err_from_is_err_and c.from_residual.result c.from_residual.ensures.1 in
     refused_line _ c.in_err-ups.field-0.0 c.from_residual.result _

@@ -8,11 +8,11 @@ use Rattle.nutanswer.specs.Checks.{unknown_ups}
 use Rattle.nutanswer.specs.Answer.{Answer, one_line, answer_to, IsOneLine}
 use Rattle.nutanswer.specs.Promises.{known_ups}
 use Rattle.nutanswer.proofs.Carried.{own, own_line}
-use Rattle.nutanswer.proofs.answers.session.fsd.Goals as goal
+use Rattle.nutanswer.proofs.view.View.fsd.Goals as goal
 
 pub returns : goal.returns
 returns g c =
-    let s = g.V.View.seen c.args.view.now in
+    let s = c.args.self.now in
     let u = known_ups c.in_ok-ups.ups in
     let found : unknown_ups s c.args.ups.now ≡ Ok u = sym c.in_ok-ups.ensures in
     let row : answer_to s (asker_seen c.args.asker) (commands.Fsd c.args.ups.now) ≡ Ok (one_line (codes "OK" ∷ codes "FSD-SET" ∷ []) (Fsd u.id)) = rw (← c.in_ok-user.ensures, found) refl in

@@ -6,11 +6,11 @@ use Rattle.nutanswer.specs.Checks.{user}
 use Rattle.nutanswer.specs.Orders.{instcmd_right}
 use Rattle.nutanswer.specs.Promises.{live_command}
 use Rattle.nutanswer.proofs.Rows.{instcmd_refused}
-use Rattle.nutanswer.proofs.answers.orders.inst_cmd.Goals as goal
+use Rattle.nutanswer.proofs.view.View.inst_cmd.Goals as goal
 
 pub returns-in_err-ups : goal.returns-in_err-ups
 returns-in_err-ups g c =
-    let s = g.V.View.seen c.args.view.now in
+    let s = c.args.self.now in
     let a = asker_seen c.args.asker in
     let right = c.in_ok-user_of_command.ensures ∙ ap (λ (name : Option (List ℕ)). user s a (instcmd_right name)) c.read-name.ensures in
     let found = c.in_err-ups.ensures ∙ ap (live_command s c.args.ups.now) c.read-name.ensures in

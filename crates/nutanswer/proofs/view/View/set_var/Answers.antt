@@ -9,11 +9,11 @@ use Rattle.nutanswer.specs.Orders.{order, ok_words}
 use Rattle.nutanswer.specs.Promises.{CarriesAnswer, known_variable}
 use Rattle.nutanswer.specs.Promises.{live_variable, settable}
 use Rattle.nutanswer.proofs.Rows.{set_without, set_refused, set_without_id, set_full, set_done, settable_is}
-use Rattle.nutanswer.proofs.answers.orders.set_var.Goals as goal
+use Rattle.nutanswer.proofs.view.View.set_var.Goals as goal
 
 pub returns-in_err-value : goal.returns-in_err-value
 returns-in_err-value g c =
-    let s = g.V.View.seen c.args.view.now in
+    let s = c.args.self.now in
     let found = c.in_ok-ups.ensures ∙ ap (live_variable s c.args.ups.now) c.read-name.ensures in
     let given = ap (settable c.in_ok-ups.variable.now) c.bytes.ensures.value in
     let p = err_from_is_err_and c.from_residual-in_err-value.result c.from_residual-in_err-value.ensures.1 in
@@ -22,7 +22,7 @@ returns-in_err-value g c =
 
 pub returns-in_err-id : goal.returns-in_err-id
 returns-in_err-id g c =
-    let s = g.V.View.seen c.args.view.now in
+    let s = c.args.self.now in
     let found = c.in_ok-ups.ensures ∙ ap (live_variable s c.args.ups.now) c.read-name.ensures in
     let given = ap (settable c.in_ok-ups.variable.now) c.bytes.ensures.value in
     let p = err_from_is_err_and c.from_residual-in_err-id.result c.from_residual-in_err-id.ensures.1 in
@@ -31,7 +31,7 @@ returns-in_err-id g c =
 
 pub returns-then-len-ups : goal.returns-then-len-ups
 returns-then-len-ups g c =
-    let s = g.V.View.seen c.args.view.now in
+    let s = c.args.self.now in
     let found = c.in_ok-ups.ensures ∙ ap (live_variable s c.args.ups.now) c.read-name.ensures in
     let given = ap (settable c.in_ok-ups.variable.now) c.bytes.ensures.value in
     set_full s (asker_seen c.args.asker) c.args.ups.now c.args.name.now c.args.value.now (known_variable (c.in_ok-ups.ups, c.in_ok-ups.name, c.in_ok-ups.variable)) c.in_ok-user.ensures found
@@ -39,7 +39,7 @@ returns-then-len-ups g c =
 
 pub returns : goal.returns
 returns g c =
-    let s = g.V.View.seen c.args.view.now in
+    let s = c.args.self.now in
     let found = c.in_ok-ups.ensures ∙ ap (live_variable s c.args.ups.now) c.read-name.ensures in
     let given = ap (settable c.in_ok-ups.variable.now) c.bytes.ensures.value in
     let done = set_done s (asker_seen c.args.asker) c.args.ups.now c.args.name.now c.args.value.now (known_variable (c.in_ok-ups.ups, c.in_ok-ups.name, c.in_ok-ups.variable)) c.in_ok-user.ensures found
@@ -49,7 +49,7 @@ returns g c =
 
 pub returns-in_err-ups : goal.returns-in_err-ups
 returns-in_err-ups g c =
-    let s = g.V.View.seen c.args.view.now in
+    let s = c.args.self.now in
     let missing = c.in_err-ups.ensures ∙ ap (live_variable s c.args.ups.now) c.read-name.ensures in
     let p = err_from_is_err_and c.from_residual-in_err-ups.result c.from_residual-in_err-ups.ensures.1 in
     set_without s (asker_seen c.args.asker) c.args.ups.now c.args.name.now c.args.value.now c.in_ok-user.ensures c.in_err-ups.field-0.0 missing
