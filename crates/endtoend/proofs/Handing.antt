@@ -6,7 +6,7 @@ use Rattle.std.specs.Prelude.{◌≢◌, ◌==◌, is_ok, IfSome}
 use Rattle.nutwords.specs.Bytes.{is_name_byte}
 use Rattle.nutwords.specs.Reading.{read_text, read_name, is_name, is_ups_name}
 use Rattle.nutio.specs.Ends.{NoneFailed}
-use Rattle.nutrequest.specs.State.{unread_of, reader_of, writer_of, is_over}
+use Rattle.nutrequest.specs.State.{unread_of, reader_of, writer_of}
 use Rattle.nutrequest.specs.declared.faults.ClientFault.TheVariants.{Memory}
 use Rattle.nutrequest.specs.declared.request.Query.{Query}
 use Rattle.nutrequest.specs.declared.request.Query.TheVariants as queries
@@ -106,7 +106,7 @@ module _ {R W O : Type 0} (remaining : R → Option (List ℕ)) (failures : R �
   -- what the engine answers where no call failed
   abbrev pub Runs : Job → ProgramRun R W O → Type 0
   Runs job r =
-      is_over r.session ≡ false → (bytes : List ℕ) → remaining (reader_of r.session) ≡ Some bytes
+      r.session.is_over ≡ false → (bytes : List ℕ) → remaining (reader_of r.session) ≡ Some bytes
       → NoneFailed (failures (reader_of r.session)) (failures (reader_of r.session_after))
       → NoneFailed (write_failures (writer_of r.session)) (write_failures (writer_of r.session_after))
       → NoneFailed (print_failures r.out) (print_failures r.out_after) → r.result ≢ Err Memory

@@ -18,7 +18,7 @@ use Rattle.nutanswer.specs.Checks.{KnownUps, ups_named}
 use Rattle.nutcore.specs.Reply.{seen, reply}
 use Rattle.nutcore.specs.Server.{ServerState}
 use Rattle.nutio.specs.Ends.{NoneFailed}
-use Rattle.nutrequest.specs.State.{unread_of, reader_of, writer_of, is_over}
+use Rattle.nutrequest.specs.State.{unread_of, reader_of, writer_of}
 use Rattle.nutrequest.specs.declared.faults.ClientFault.{ClientFault}
 use Rattle.nutrequest.specs.declared.faults.ClientFault.TheVariants.{Memory}
 use Rattle.nutrequest.specs.declared.request.Query.TheVariants as queries
@@ -59,7 +59,7 @@ module _ {R W O : Type 0} (remaining : R → Option (List ℕ)) (failures : R �
   -- A new session's reader gives these bytes, in whatever pieces. No call of the reader, the writer
   -- or the output failed, and memory was there.
   pub record IsHanded (bytes : List ℕ) (r : ProgramRun R W O) : Type 0 where
-    pub going : is_over r.session ≡ false
+    pub going : r.session.is_over ≡ false
     pub fresh : unread_of r.session ≡ []
     pub gives : remaining (reader_of r.session) ≡ Some bytes
     pub reads : NoneFailed (failures (reader_of r.session)) (failures (reader_of r.session_after))

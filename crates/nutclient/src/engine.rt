@@ -1,7 +1,7 @@
 //! The engine of the programs.
 ghost use Rattle.std.specs.Prelude.{◌≡◌, ◌≢◌, ◌≤◌, ◌++◌, [], Err, OnErr, OnOk, true, false, Some, List, ℕ, Result};
 ghost use Rattle.nutio.specs.Ends.{NoneFailed};
-ghost use Rattle.nutrequest.specs.State.{unread_of, reader_of, writer_of, is_over};
+ghost use Rattle.nutrequest.specs.State.{unread_of, reader_of, writer_of};
 ghost use Rattle.nutrequest.specs.declared.faults.ClientFault.{ClientFault};
 ghost use Rattle.nutclient.specs.Requests.{RequestsGive};
 ghost use Rattle.nutclient.specs.Printed.{printed, RunGives, Answers};
@@ -52,16 +52,16 @@ pub fn run<R: Source, W: Sink, O: Sink>(
     job: &Job,
 ) -> Result<(), ClientFault>
     // After a fault every further job is refused, and changes nothing.
-    ensures over { is_over session.old ≡ true
+    ensures over { session.old.is_over ≡ true
         → (result ≡ Err ClientFault.EarlyEnd) × (session.new ≡ session.old) × (out.new ≡ out.old) }
     // What was sent, what came and what was printed, for each result.
-    ensures gives { is_over session.old ≡ false
+    ensures gives { session.old.is_over ≡ false
         → RunGives R.remaining R.failures W.contents W.failures O.contents O.failures
         job.now.requests.items job.now.form
         (unread_of session.old) (reader_of session.old) (writer_of session.old) out.old result
         (unread_of session.new) (reader_of session.new) (writer_of session.new) out.new }
     // Where no call failed and memory was there, the bytes decide what is printed, however they are cut.
-    ensures printed { is_over session.old ≡ false
+    ensures printed { session.old.is_over ≡ false
         → (bytes : List ℕ) → R.remaining (reader_of session.old) ≡ Some bytes
         → NoneFailed (R.failures (reader_of session.old)) (R.failures (reader_of session.new))
         → NoneFailed (W.failures (writer_of session.old)) (W.failures (writer_of session.new))
@@ -70,11 +70,11 @@ pub fn run<R: Source, W: Sink, O: Sink>(
         → Answers O.contents
         (printed job.now.requests.items job.now.form (unread_of session.old ++ bytes))
         out.old result out.new }
-    ensures fault { OnErr result (is_over session.new ≡ true) }
+    ensures fault { OnErr result (session.new.is_over ≡ true) }
     // A job that is done leaves the session to the next one, with what was read past its replies.
-    ensures goes_on { OnOk result (is_over session.new ≡ false) }
+    ensures goes_on { OnOk result (session.new.is_over ≡ false) }
 {
-    if session.is_over() {
+    if session.is_over {
         return Err(ClientFault::EarlyEnd);
     }
     let mut items = Vec::new(session.alloc);
@@ -85,8 +85,6 @@ pub fn run<R: Source, W: Sink, O: Sink>(
         };
     }
     let printed = print(session.alloc, job.form, items.as_slice(), out);
-    if printed.is_err() {
-        session.end();
-    }
+    session.is_over = printed.is_err();
     printed
 }

@@ -1,5 +1,5 @@
 -- A client's session, as contracts see it.
-use Rattle.std.specs.Prelude.{ℕ, Bool, List}
+use Rattle.std.specs.Prelude.{ℕ, List}
 use Rattle.nutrequest.specs.Inbox.{unread}
 use Rattle.nutrequest.specs.declared.session.Session.{Session}
 
@@ -12,7 +12,3 @@ reader_of session = session.reader
 
 abbrev pub writer_of : {R W : Type 0} → Session R W → W
 writer_of session = session.writer
-
--- It met a fault: every further request is refused.
-abbrev pub is_over : {R W : Type 0} → Session R W → Bool
-is_over session = session.is_over

@@ -6,8 +6,9 @@ use bstr::ByteSlice;
 use nutwords::{Line, Name};
 use std::alloc::AllocError;
 use std::error::Error;
-use std::fmt;
 use std::fmt::Formatter;
+use std::io::ErrorKind;
+use std::{fmt, io};
 
 /// Why a request or a program failed.
 #[derive(Debug, Drop)]
@@ -100,6 +101,21 @@ impl fmt::Display for ClientFault {
 }
 
 impl Error for ClientFault {}
+
+impl From<io::Error> for ClientFault {
+    ghost use Rattle.std.specs.Prelude.{◌⊎◌};
+    ghost use Rattle.nutrequest.specs.declared.faults.ClientFault.TheVariants.{Connect, Memory};
+
+    ghost from_gives = { λ _ fault. (fault ≡ Connect) ⊎ (fault ≡ Memory) };
+
+    /// What a call that connects met.
+    fn from(error: io::Error) -> ClientFault {
+        match error.kind() {
+            ErrorKind::OutOfMemory => ClientFault::Memory,
+            _ => ClientFault::Connect,
+        }
+    }
+}
 
 impl From<AllocError> for ClientFault {
     ghost use Rattle.nutrequest.specs.declared.faults.ClientFault.TheVariants.{Memory};

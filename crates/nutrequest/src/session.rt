@@ -2,7 +2,7 @@
 ghost use Rattle.std.specs.Prelude.{◌≡◌, [], Err, OnErr, OnOk, MatchResult, true, false};
 ghost use Rattle.std.specs.Result.{result_map_both};
 ghost use Rattle.nutrequest.specs.Inbox.{unread};
-ghost use Rattle.nutrequest.specs.State.{unread_of, reader_of, writer_of, is_over};
+ghost use Rattle.nutrequest.specs.State.{unread_of, reader_of, writer_of};
 ghost use Rattle.nutrequest.specs.Session.{ReplyGives, AskGives};
 
 use crate::inbox::Inbox;
@@ -21,7 +21,8 @@ pub struct Session<R, W> {
     reader: R,
     writer: W,
     inbox: Inbox,
-    is_over: bool,
+    /// Whether it met a fault: every further request is refused then.
+    pub is_over: bool,
 }
 
 impl<R: Source, W: Sink> Session<R, W> {
@@ -30,7 +31,7 @@ impl<R: Source, W: Sink> Session<R, W> {
         ensures reader { reader_of result ≡ reader }
         ensures writer { writer_of result ≡ writer }
         ensures unread { unread_of result ≡ [] }
-        ensures over { is_over result ≡ false }
+        ensures over { result.is_over ≡ false }
     {
         Session {
             alloc,
@@ -40,23 +41,6 @@ impl<R: Source, W: Sink> Session<R, W> {
             is_over: false,
         }
     }
-
-    /// Whether it met a fault: every further request is refused then.
-    pub fn is_over(&self) -> bool
-        ensures { result ≡ is_over self.now }
-    {
-        self.is_over
-    }
-
-    /// Ends the session: every further request is refused.
-    pub fn end(&mut self)
-        ensures over { is_over self.new ≡ true }
-        ensures unread { unread_of self.new ≡ unread_of self.old }
-        ensures reader { reader_of self.new ≡ reader_of self.old }
-        ensures writer { writer_of self.new ≡ writer_of self.old }
-    {
-        self.is_over = true;
-    }
 }
 
 /// Sends the request's line, and gives the reply's items once the reply is whole.
@@ -65,15 +49,15 @@ pub fn ask<R: Source, W: Sink>(
     request: &Request,
 ) -> Result<Vec<Item>, ClientFault>
     // After a fault every further request is refused, and changes nothing.
-    ensures over { is_over session.old ≡ true
+    ensures over { session.old.is_over ≡ true
         → (result ≡ Err ClientFault.EarlyEnd) × (session.new ≡ session.old) }
-    ensures reply { is_over session.old ≡ false
+    ensures reply { session.old.is_over ≡ false
         → AskGives R.remaining R.failures W.contents W.failures request.now
         (unread_of session.old) (reader_of session.old) (writer_of session.old)
         (result_map_both (λ items. items.items) (λ fault. fault) result)
         (unread_of session.new) (reader_of session.new) (writer_of session.new) }
-    ensures fault { OnErr result (is_over session.new ≡ true) }
-    ensures goes_on { OnOk result (is_over session.new ≡ false) }
+    ensures fault { OnErr result (session.new.is_over ≡ true) }
+    ensures goes_on { OnOk result (session.new.is_over ≡ false) }
 {
     if session.is_over {
         return Err(ClientFault::EarlyEnd);

@@ -1,4 +1,4 @@
-use Rattle.std.proofs.Common.{◌≡◌, [], arith, ◌+◌, ◌∙◌, Err, List, drop, inl, refl, sym, subst}
+use Rattle.std.proofs.Common.{◌≡◌, [], arith, ◌+◌, Err, List, drop, inl, refl, sym, subst}
 use Rattle.std.proofs.lemmas.List.{at_drop_all}
 use Rattle.nutrequest.specs.State.{unread_of, reader_of, writer_of}
 use Rattle.nutrequest.specs.declared.request.Request.{Request}
@@ -7,7 +7,6 @@ use Rattle.nutclient.specs.Printed.{PrintGives, RunGives, text_of}
 use Rattle.nutclient.proofs.Printing.{run_printed}
 use Rattle.nutclient.proofs.Underway.{IsUnderWay, starts, goes_further, ends_well, ends_early, comes_next}
 use Rattle.nutclient.proofs.engine.run.Goals as goal
-use Rattle.nutclient.proofs.engine.run.Goals.{then-is_err, else-is_err}
 
 pub loop-request-init : goal.loop-request-init
 loop-request-init g c =
@@ -19,7 +18,7 @@ loop-request-init g c =
       under_way = subst (λ items. IsUnderWay g.R.Source.remaining g.R.Source.failures g.W.Sink.contents g.W.Sink.failures
           all old reader writer items all old reader writer) (sym c.new-items.ensures.items)
           (starts g.R.Source.remaining g.R.Source.failures g.W.Sink.contents g.W.Sink.failures all old reader writer);
-      goes_on = sym c.is_over.ensures ∙ c.if-is_over.false;
+      goes_on = c.if-session.false;
     }
 
 pub returns-in-Err-clause-gives : goal.returns-in-Err-clause-gives
@@ -86,9 +85,5 @@ returns-clause-gives g c h =
     c.as_slice.ensures.value c.print-printed.ensures in
     let ran = run_printed g.R.Source.remaining g.R.Source.failures g.W.Sink.contents g.W.Sink.failures g.O.Sink.contents g.O.Sink.failures all form old kept
     reader after writer sent c.args.out.now c.print-printed.new.out items c.print-printed.result given text in
-    let asked = subst (λ rs. RunGives g.R.Source.remaining g.R.Source.failures g.W.Sink.contents g.W.Sink.failures g.O.Sink.contents g.O.Sink.failures rs form old
-    reader writer c.args.out.now c.print-printed.result kept after sent c.print-printed.new.out) c.as_slice-request-items.ensures.value ran in
-    elim c.if-is_err.branch [
-      | then-is_err w ↦ rw (w.session-is, w.end.ensures.unread, w.end.ensures.reader, w.end.ensures.writer) asked
-      | else-is_err w ↦ rw w.session-is asked
-    ]
+    subst (λ rs. RunGives g.R.Source.remaining g.R.Source.failures g.W.Sink.contents g.W.Sink.failures g.O.Sink.contents g.O.Sink.failures rs form old
+    reader writer c.args.out.now c.print-printed.result kept after sent c.print-printed.new.out) c.as_slice-request-items.ensures.value ran

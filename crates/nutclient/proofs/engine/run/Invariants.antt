@@ -1,5 +1,5 @@
 use Rattle.std.proofs.Common.{◌≡◌, drop, false}
-use Rattle.nutrequest.specs.State.{unread_of, reader_of, writer_of, is_over}
+use Rattle.nutrequest.specs.State.{unread_of, reader_of, writer_of}
 use Rattle.nutclient.proofs.Underway.{IsUnderWay}
 use Rattle.nutclient.proofs.engine.run.Given as goal
 
@@ -8,5 +8,5 @@ abbrev pub invariant-loop-request : goal.invariant-loop-request
 invariant-loop-request g l = record {
   under_way : IsUnderWay g.R.Source.remaining g.R.Source.failures g.W.Sink.contents g.W.Sink.failures l.request-items (unread_of l.fn.session) (reader_of l.fn.session) (writer_of l.fn.session)
       l.items.items (drop l.request-index l.request-items) (unread_of l.session) (reader_of l.session) (writer_of l.session);
-  goes_on : is_over l.session ≡ false;
+  goes_on : l.session.is_over ≡ false;
 }
