@@ -12,14 +12,14 @@ use Rattle.nutcore.specs.Pump.{pump_stops, held_of, owed_of}
 use Rattle.nutcore.specs.Step.{with_input, without_output, may_take, after_by, refused_after, outcome_of}
 use Rattle.nutcore.specs.History.{Execution, texts_of, executions_until, executions_by, executions, executions_in_event, of_client, owed, answers, held}
 use Rattle.nutcore.specs.Isolation.{client_of}
-use Rattle.nutcore.specs.Taking.{TakesAmongOthers, is_event_of, events_of, WhoTakesAmongOthersGetsEverything, lines_done}
+use Rattle.nutcore.specs.Taking.{is_event_of, events_of, lines_done}
 use Rattle.nutcore.proofs.Events.{of_session_event}
 use Rattle.nutcore.proofs.Histories.{later, lines_more, answers_more, of_its_pump, of_opened}
 use Rattle.nutcore.proofs.Isolation.{own}
 use Rattle.nutcore.proofs.Least.{IsIdle}
 use Rattle.nutcore.proofs.Progress.{Presence}
-use Rattle.nutcore.proofs.Taking.{HasNothingLeft, outcome_then, IsTake, one_take, take_does, idle_take, some_taken, all_is_queue}
-use Rattle.nutcore.specs.TakingSome.{IsTakeOf, TakesSomeAmongOthers, WhoTakesSomeGetsEverything}
+use Rattle.nutcore.proofs.Taking.{HasNothingLeft, outcome_then, IsTake, one_take, take_does, idle_take, some_taken}
+use Rattle.nutcore.specs.TakingSome.{IsTakeOf, TakesSomeAmongOthers, IsServed, WhoTakesSomeGetsEverything}
 
 -- what a client holds and owes stays: its session does, or one is opened for it
 pub record IsUntouched (old new : Option SessionState) : Type 0 where
@@ -79,12 +79,7 @@ module _ (k : ℕ) (few : k ≤ QUEUE_LIMIT) (c : ℕ) where
       (λ no other. let same = (anothers c s e (refused_after o) other).untouched in record { none = same.owes ∙ h.none; ended = same.stopped h.ended }))
   stays_left s t es os r among h = absurd r
 
-  -- so many takes are enough
-  record IsServedSo (s : ServerState) (es : List Event) (os : List Outcome) (t : ServerState) : Type 0 where
-    lines : lines_done c s es os ≤ length (held c s)
-    served : length (owed c s) + length (answers c s es os) + lines_done c s es os * k < events_of c es * k → (owed c t ≡ []) × (pump_stops t c ≡ true)
-
-  served_run : (s t : ServerState) (es : List Event) (os : List Outcome) → Run s es os t → TakesSomeAmongOthers k c s es os → IsServedSo s es os t
+  served_run : (s t : ServerState) (es : List Event) (os : List Outcome) → Run s es os t → TakesSomeAmongOthers k c s es os → IsServed k c s es os t
   served_run s t [] [] r among = record { lines = omega arith; served = λ h. absurd (omega (arith, h)) }
   served_run s t (e ∷ es) (o ∷ os) (mid, step, r) among =
       let next : ServerState = after s e o in
@@ -117,16 +112,4 @@ module _ (k : ℕ) (few : k ≤ QUEUE_LIMIT) (c : ℕ) where
   served_run s t es os r among = absurd r
 
 pub takes_some : WhoTakesSomeGetsEverything
-takes_some old new es os c k some few r among enough =
-    (served_run k few c old new es os r among).served (omega (arith, enough, some, add-mul (lines_done c old es os) 1 k))
-
--- all that is offered is a whole queue, or less
-takes_queues : (c : ℕ) (s : ServerState) (es : List Event) (os : List Outcome) → TakesAmongOthers c s es os → TakesSomeAmongOthers QUEUE_LIMIT c s es os
-takes_queues c s [] os among = tt
-takes_queues c s (e ∷ es) [] among = tt
-takes_queues c s (e ∷ es) (o ∷ os) (own, others) = (λ its. ((own its).0 ∙ ap (λ (n : ℕ). Took c n) (sym (all_is_queue c s)), (own its).1), takes_queues c (after s e o) es os others)
-
-pub among_others : WhoTakesAmongOthersGetsEverything
-among_others old new es os c r among =
-    let h = served_run QUEUE_LIMIT (omega arith) c old new es os r (takes_queues c old es os among) in
-    record { lines = h.lines; served = λ enough. h.served (omega (arith, enough)) }
+takes_some old new es os c k few r among = served_run k few c old new es os r among

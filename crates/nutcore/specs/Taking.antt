@@ -54,32 +54,9 @@ pub record GetsEverything (c : ℕ) (old : ServerState) : Type 0 where
 abbrev pub WhoTakesGetsEverything : Type 0
 WhoTakesGetsEverything = (s : ServerState) (c : ℕ) → GetsEverything c s
 
--- Each event of the client is one; others' are any, and may lack memory.
-abbrev pub TakesAmongOthers : ℕ → ServerState → List Event → List Outcome → Type 0
-TakesAmongOthers c s [] os = Unit {0}
-TakesAmongOthers c s (e ∷ es) [] = Unit {0}
-TakesAmongOthers c s (e ∷ es) (o ∷ os) =
-    (client_of e ≡ Some c → IsTakeOfAll c s e o) × TakesAmongOthers c (after s e o) es os
-
 -- How many events are the client's.
 abbrev pub is_event_of : ℕ → Event → Bool
 is_event_of c e = option_map_or (λ d. d == c) (client_of e) false
 
 abbrev pub events_of : ℕ → List Event → ℕ
 events_of c es = length (filter (is_event_of c) es)
-
--- The run executes no more lines of the client than bytes were held; and where so many takes are
--- among its events as are enough, the client is owed nothing, and no line of it is held that may be
--- executed.
-pub record IsServed (c : ℕ) (old : ServerState) (events : List Event) (outcomes : List Outcome)
-    (new : ServerState) : Type 0 where
-  pub lines : lines_done c old events outcomes ≤ length (held c old)
-  pub served : enough_takes c old events outcomes ≤ events_of c events
-      → (owed c new ≡ []) × (pump_stops new c ≡ true)
-
--- Whatever drivers and other clients do between, and however often the time is told.
-abbrev pub WhoTakesAmongOthersGetsEverything : Type 0
-WhoTakesAmongOthersGetsEverything =
-    (old new : ServerState) (events : List Event) (outcomes : List Outcome) (c : ℕ)
-    → Run old events outcomes new → TakesAmongOthers c old events outcomes
-    → IsServed c old events outcomes new

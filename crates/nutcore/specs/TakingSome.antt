@@ -1,5 +1,5 @@
--- So does a client that takes only some bytes at a time.
-use Rattle.std.specs.Prelude.{◌≡◌, ◌≤◌, ◌+◌, ◌*◌, ℕ, true, List, [], ◌∷◌, Some, length, min}
+-- A client that takes, among the events of others, all that it is offered or some bytes at a time.
+use Rattle.std.specs.Prelude.{◌≡◌, ◌≤◌, ◌<◌, ◌+◌, ◌*◌, ℕ, true, List, [], ◌∷◌, Some, length, min}
 use Rattle.nutlisting.specs.declared.byte_queue.TheConstants.{QUEUE_LIMIT}
 use Rattle.nutcore.specs.declared.event.Event.{Event}
 use Rattle.nutcore.specs.declared.event.Event.TheVariants.{Took}
@@ -8,7 +8,7 @@ use Rattle.nutcore.specs.Server.{ServerState, session}
 use Rattle.nutcore.specs.Pump.{pump_stops}
 use Rattle.nutcore.specs.Step.{offered, after, outcome_of}
 use Rattle.nutcore.specs.Run.{Run}
-use Rattle.nutcore.specs.History.{owed, answers}
+use Rattle.nutcore.specs.History.{owed, held, answers}
 use Rattle.nutcore.specs.Isolation.{client_of}
 use Rattle.nutcore.specs.Taking.{lines_done, events_of}
 
@@ -24,13 +24,19 @@ TakesSomeAmongOthers k c s (e ∷ es) [] = Unit {0}
 TakesSomeAmongOthers k c s (e ∷ es) (o ∷ os) =
     (client_of e ≡ Some c → IsTakeOf k c s e o) × TakesSomeAmongOthers k c (after s e o) es os
 
--- So many takes are enough: one for each k bytes of what is owed and is answered, one for each line
--- that is executed, and one more. Then the client is owed nothing, and no line of it is held that
--- may be executed.
+-- The run executes no more lines of the client than bytes were held. With more takes than one for
+-- each k bytes of what is owed and is answered, and one for each line that is executed, nothing is
+-- owed to the client, and no line of it is held that may be executed.
+pub record IsServed (k c : ℕ) (old : ServerState) (events : List Event) (outcomes : List Outcome)
+    (new : ServerState) : Type 0 where
+  pub lines : lines_done c old events outcomes ≤ length (held c old)
+  pub served : length (owed c old) + length (answers c old events outcomes)
+      + lines_done c old events outcomes * k < events_of c events * k
+      → (owed c new ≡ []) × (pump_stops new c ≡ true)
+
+-- Whatever drivers and other clients do between, and however often the time is told.
 abbrev pub WhoTakesSomeGetsEverything : Type 0
 WhoTakesSomeGetsEverything =
-    (old new : ServerState) (events : List Event) (outcomes : List Outcome) (c k : ℕ) → 1 ≤ k
+    (old new : ServerState) (events : List Event) (outcomes : List Outcome) (c k : ℕ)
     → k ≤ QUEUE_LIMIT → Run old events outcomes new → TakesSomeAmongOthers k c old events outcomes
-    → length (owed c old) + length (answers c old events outcomes)
-    + (lines_done c old events outcomes + 1) * k ≤ events_of c events * k
-    → (owed c new ≡ []) × (pump_stops new c ≡ true)
+    → IsServed k c old events outcomes new

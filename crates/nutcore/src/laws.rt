@@ -12,7 +12,7 @@ ghost use Rattle.nutcore.specs.Limits.{Limits};
 ghost use Rattle.nutcore.specs.Bounded.{EachEventIsBounded};
 ghost use Rattle.nutcore.specs.Notes.{NoNoteIsCut};
 ghost use Rattle.nutcore.specs.NotedRuns.{TheNotesOfARunAreWhatChanged};
-ghost use Rattle.nutcore.specs.Taking.{WhoTakesGetsEverything, WhoTakesAmongOthersGetsEverything};
+ghost use Rattle.nutcore.specs.Taking.{WhoTakesGetsEverything};
 ghost use Rattle.nutcore.specs.NotStuck.{WhoIsOwedLittleHasRoom, WhoEndsIsFinished};
 ghost use Rattle.nutcore.specs.TakingSome.{WhoTakesSomeGetsEverything};
 ghost use Rattle.nutcore.specs.DriverHistory.{WhatADriverToldIsExecuted};
@@ -300,11 +300,10 @@ pub fn the_notes_of_a_run_are_what_changed()
 
 /// With memory there, a client that takes all that it is offered, or only some bytes at a time, is
 /// owed nothing after a known number of takes, whatever others do.
-#[tactic(auto, using(crate::proofs::Taking::gets_everything, crate::proofs::TakingAmongOthers::among_others))]
+#[tactic(auto, using(crate::proofs::Taking::gets_everything))]
 pub fn who_takes_gets_everything()
     ensures alone { WhoTakesGetsEverything }
-    ensures among_others { WhoTakesAmongOthersGetsEverything }
-    ensures some { WhoTakesSomeGetsEverything }
+    ensures among_others { WhoTakesSomeGetsEverything }
 {}
 
 /// Unless memory was refused, a client that is owed at most 4,096 bytes has room for input. An
