@@ -14,7 +14,7 @@ pub going_on : (goes_on : Bool) (pass next : Pass) → Some next ≡ (if goes_on
 going_on true pass next h = (refl, cc)
 going_on false pass next h = (cc, cc)
 
-pub is_over : {R F : Type 0} (s : ServerState) (old : MioSockets R F) (new : Pass) → IsOver (may_at s old) old.pass new → IsOver (may_at s old) old.pass old.pass
+is_over : {R F : Type 0} (s : ServerState) (old : MioSockets R F) (new : Pass) → IsOver (may_at s old) old.pass new → IsOver (may_at s old) old.pass old.pass
 is_over s old new over = subst (λ (p : Pass). IsOver (may_at s old) old.pass p) over.same over
 
 -- The pass is over: what follows it without a look is the first turn of the next one.

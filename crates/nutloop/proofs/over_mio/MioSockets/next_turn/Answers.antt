@@ -1,5 +1,5 @@
 use Rattle.nutloop.specs.Pass.{again, goes_on}
-use Rattle.nutloop.proofs.Answering.{going_on, is_over, of_next_pass}
+use Rattle.nutloop.proofs.Answering.{going_on, of_next_pass}
 use Rattle.nutloop.proofs.over_mio.MioSockets.next_turn.Goals as goal
 
 pub returns-clause-answers : goal.returns-clause-answers
