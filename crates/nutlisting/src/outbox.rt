@@ -56,12 +56,10 @@ impl Outbox {
     pub fn new(alloc: Global) -> Result<Self, AllocError>
         ensures { IfOk result (λ outbox. (outbox.queue ≡ []) × (outbox.cursor ≡ None)) }
     {
-        let queue = ByteQueue::new(alloc)?;
-        let clients = Clients::new(alloc)?;
         Ok(Outbox {
-            queue,
+            queue: ByteQueue::new(alloc)?,
             cursor: None,
-            clients: Some(clients),
+            clients: Some(Clients::new(alloc)?),
         })
     }
 
