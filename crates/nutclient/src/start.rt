@@ -75,7 +75,7 @@ fn matches_of<'a, C: Client>(alloc: Global, words: &'a [String]) -> Result<ArgMa
         .version(VERSION)
         .after_help(C::EXAMPLE)
         .bin_name(name)?;
-    with_words(command, C::words(alloc)?)?.try_get_matches_from(words)
+    with_words(alloc, command, C::words())?.try_get_matches_from(words)
 }
 
 /// Reports a fault on standard error.

@@ -3,13 +3,19 @@ use Rattle.std.specs.Prelude.{◌≡◌, ℕ, List, [], ◌∷◌, Bool, true, f
 use Rattle.std.specs.Prelude.{⊤, codes, map, option_map, unwrap_or}
 use denote.Ref.{Bor}
 use Rattle.clap.specs.Simple.{new_shape}
-use Rattle.clap.specs.Words.{AddsConflicts, AddsRequiredUnless, AddsRequirements}
-use Rattle.clap.specs.Words.{App, Rule, Text, new_rule, rule_of, with_rule}
+use Rattle.clap.specs.Walk.{is_empty, texts}
+use Rattle.clap.specs.Words.{AddsArg, App, Rule, Text, new_rule, rule_of, with_rule}
 use Rattle.clap.specs.Words.{first_value, found_of, one_text}
-use Rattle.clap.specs.declared.builder.action.ArgAction.TheVariants.{Set, SetTrue}
+use Rattle.clap.specs.declared.builder.action.ArgAction.TheVariants.{SetTrue}
 use Rattle.clap.specs.declared.builder.arg.Arg.{Arg}
-use Rattle.clap.specs.declared.builder.arg.ArgPredicate.{ArgPredicate}
+use Rattle.clap.specs.declared.builder.command.Command.{Command}
 use Rattle.clap.specs.declared.parser.matches.ArgMatches.{ArgMatches}
+use Rattle.nutcommand.specs.declared.words.Bond.{Bond as BondOfWord}
+use Rattle.nutcommand.specs.declared.words.Bond.TheVariants as bonds
+use Rattle.nutcommand.specs.declared.words.Form.{Form}
+use Rattle.nutcommand.specs.declared.words.Form.TheVariants.{LongFlag, LongOption, Operand}
+use Rattle.nutcommand.specs.declared.words.Form.TheVariants.{Parsed, Preset, ShortFlag, ShortOption}
+use Rattle.nutcommand.specs.declared.words.Word.{Word}
 
 -- The argument is read by this rule, and is no argument of all commands.
 abbrev pub IsReadBy : Rule → Arg → Type 0
@@ -25,64 +31,81 @@ long_flag name = record (new_rule name) { long = Some name; action = Some SetTru
 
 -- `-c VALUE`.
 abbrev pub short_option : Text → ℕ → Rule
-short_option name letter =
-    record (new_rule name) { short = Some letter; value_names = 1; action = Some Set }
+short_option name letter = record (new_rule name) { short = Some letter; value_names = 1 }
 
 -- `--name VALUE`.
 abbrev pub long_option : Text → Rule
-long_option name =
-    record (new_rule name) { long = Some name; value_names = 1; action = Some Set }
+long_option name = record (new_rule name) { long = Some name; value_names = 1 }
 
 -- A word without a dash.
 abbrev pub operand : Text → Rule
-operand name = record (new_rule name) { value_names = 1; action = Some Set }
+operand name = record (new_rule name) { value_names = 1 }
 
--- It has to be there.
-abbrev pub required : Rule → Rule
-required word = record word { required = true }
+-- The rule of a word of this name that is written so.
+abbrev pub rule_by_form : Text → Form → Rule
+rule_by_form name (ShortFlag letter) = short_flag name letter
+rule_by_form name LongFlag = long_flag name
+rule_by_form name (ShortOption letter shown) = short_option name letter
+rule_by_form name (LongOption shown) = long_option name
+rule_by_form name (Preset shown value) =
+    record (long_option name) { defaults = value.now ∷ [] }
+rule_by_form name (Parsed shown parser) = record (long_option name) { parser = Some parser }
+rule_by_form name (Operand shown) = operand name
 
--- The words that a word excludes, or needs, or one of which has to be there where it isn't.
+-- A word has to be there, or excludes others, or needs them, or has to be there where none of
+-- others is.
 pub data Bond : Type 0 where
   Free : Bond
+  Required : Bond
   Excludes : (names : List Text) → Bond
   Needs : (names : List Text) → Bond
   StandsUnless : (names : List Text) → Bond
 
 -- A word of a program: how it is read, and what binds it.
-abbrev pub Word : Type 0
-Word = Rule × Bond
+abbrev pub Row : Type 0
+Row = Rule × Bond
 
--- The rule of a word that something binds says so.
-abbrev pub bound : Rule → Rule
-bound rule = record rule { is_free = false }
+abbrev pub bond_of : BondOfWord → Bond
+bond_of bonds.Free = Free
+bond_of bonds.Required = Required
+bond_of (bonds.Excludes names) = Excludes (texts names.now)
+bond_of (bonds.Needs names) = Needs (texts names.now)
+bond_of (bonds.StandsUnless names) = StandsUnless (texts names.now)
 
+abbrev pub row_of : Word → Row
+row_of word = (rule_by_form word.name.now word.form, bond_of word.bond)
+
+-- The rule says whether others bind the word.
 abbrev pub rule_by : Rule → Bond → Rule
 rule_by rule Free = rule
-rule_by rule bond = bound rule
+rule_by rule Required = record rule { required = true }
+rule_by rule (Excludes names) = record rule { is_free = is_empty names }
+rule_by rule (Needs names) = record rule { is_free = is_empty names }
+rule_by rule (StandsUnless names) = record rule { is_free = is_empty names }
 
 abbrev pub IsBoundBy : Bond → Arg → Type 0
-IsBoundBy Free word = ⊤
-IsBoundBy (Excludes names) word = map (λ s. s.now) word.conflicts.items ≡ names
+IsBoundBy (Excludes names) word = texts word.conflicts.items ≡ names
 IsBoundBy (Needs names) word = map (λ n. n.1.now) word.needs.items ≡ names
-IsBoundBy (StandsUnless names) word = map (λ s. s.now) word.r_unless.items ≡ names
+IsBoundBy (StandsUnless names) word = texts word.r_unless.items ≡ names
+IsBoundBy bond word = ⊤
 
-abbrev pub IsWord : Word → Arg → Type 0
+abbrev pub IsWord : Row → Arg → Type 0
 IsWord (rule, bond) word = IsReadBy (rule_by rule bond) word × IsBoundBy bond word
 
--- The arguments are these words, one for one.
-abbrev pub AreWords : List Word → List Arg → Type 0
-AreWords [] [] = ⊤
-AreWords (word ∷ words) (arg ∷ args) = IsWord word arg × AreWords words args
-AreWords words args = ⊥
+-- The one command is the other with an argument for each of these words in turn.
+abbrev pub TakesWords : List Row → Command → Command → Type 0
+TakesWords [] old new = old ≡ new
+TakesWords (row ∷ rows) old new = (arg : Arg) × (next : Command)
+    × IsWord row arg × AddsArg old arg next × TakesWords rows next new
 
-abbrev pub with_words : App → List Word → App
+abbrev pub with_words : App → List Row → App
 with_words app [] = app
-with_words app ((rule, bond) ∷ words) = with_words (with_rule app (rule_by rule bond)) words
+with_words app ((rule, bond) ∷ rows) = with_words (with_rule app (rule_by rule bond)) rows
 
 -- A program of this name, which prints its version, with these words.
-abbrev pub program_with : Text → List Word → App
-program_with name words =
-    with_words (record { top = record (new_shape name) { has_version = true }; subs = [] }) words
+abbrev pub program_with : Text → List Row → App
+program_with name rows =
+    with_words (record { top = record (new_shape name) { has_version = true }; subs = [] }) rows
 
 -- Whether the flag was given.
 abbrev pub IsFlag : ArgMatches → Text → Bool → Type 0
@@ -98,22 +121,3 @@ IsMaybe found name value = option_map (λ s. s.now) value ≡ first_value (found
 -- The value after a word that the parser demands.
 abbrev pub IsGiven : ArgMatches → Text → Bor Text → Type 0
 IsGiven found name value = value.now ≡ unwrap_or (first_value (found_of found) name) []
-
--- A free word that is made to exclude others is bound by these, and its rule stays the same else.
-abbrev pub ExcludingBinds : Type 0
-ExcludingBinds = (rule : Rule) (old new : Arg) (other : Bor Text) (others : List (Bor Text))
-    → IsReadBy rule old → rule.is_free ≡ true → AddsConflicts old new (other ∷ others)
-    → IsWord (rule, Excludes (map (λ s. s.now) (other ∷ others))) new
-
--- So it is with one that is made to need others,
-abbrev pub NeedingBinds : Type 0
-NeedingBinds = (rule : Rule) (old new : Arg) (other : ArgPredicate × Bor Text)
-    (others : List (ArgPredicate × Bor Text))
-    → IsReadBy rule old → rule.is_free ≡ true → AddsRequirements old new (other ∷ others)
-    → IsWord (rule, Needs (map (λ n. n.1.now) (other ∷ others))) new
-
--- and with one that has to be there unless one of others is.
-abbrev pub StandingUnlessBinds : Type 0
-StandingUnlessBinds = (rule : Rule) (old new : Arg) (other : Bor Text) (others : List (Bor Text))
-    → IsReadBy rule old → rule.is_free ≡ true → AddsRequiredUnless old new (other ∷ others)
-    → IsWord (rule, StandsUnless (map (λ s. s.now) (other ∷ others))) new

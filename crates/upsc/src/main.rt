@@ -4,14 +4,31 @@
 ghost use Rattle.nutclient.specs.declared.program.Program.TheVariants as program;
 ghost use Rattle.upsc.specs.Words.{IsAsked, upsc_words};
 
-use clap::{Arg, ArgMatches, arg};
+use clap::ArgMatches;
 use nutclient::{Client, Given, Program, main_of};
-use std::alloc::{AllocError, Global};
+use nutcommand::{Word, words};
 use std::process::ExitCode;
 
 fn main(rt: HostRuntime) -> ExitCode {
     main_of::<Upsc>(&rt)
 }
+
+/// Its words.
+static WORDS: [Word; 7] = words! {
+    "l": ShortFlag('l'), Excludes("L", "c", "attached", "tracked", "VAR"),
+        "List the names of the server's UPSs";
+    "L": ShortFlag('L'), Excludes("c", "attached", "tracked", "VAR"),
+        "List the server's UPSs with their descriptions";
+    "c": ShortFlag('c'), Excludes("attached", "tracked", "VAR"),
+        "List the clients that are logged in to the UPS";
+    "attached": LongFlag, Excludes("tracked", "VAR"),
+        "Print the number of clients that are logged in to the UPS";
+    "tracked": LongOption("ID"), Excludes("VAR"),
+        "Print how the order with this id ended, or PENDING";
+    "UPS": Operand("UPS|HOST"), StandsUnless("l", "L"),
+        "The UPS, as ups[@host[:port]]; with -l or -L the server, as host[:port]";
+    "VAR": Operand("VAR"), Free, "Print only the value of this variable";
+};
 
 /// The program.
 struct Upsc;
@@ -29,26 +46,8 @@ impl Client for Upsc {
 
     const EXAMPLE: &'static str = "Example: upsc su@localhost ups.status";
 
-    fn words(alloc: Global) -> Result<Vec<Arg<'static>>, AllocError> {
-        let mut words = Vec::new(alloc);
-        let word = arg!(in alloc; l: -'l' "List the names of the server's UPSs");
-        words.push(word.conflicts_with_all(&["L", "c", "attached", "tracked", "VAR"])?)?;
-        let word = arg!(in alloc; L: -'L' "List the server's UPSs with their descriptions");
-        words.push(word.conflicts_with_all(&["c", "attached", "tracked", "VAR"])?)?;
-        let word = arg!(in alloc; c: -'c' "List the clients that are logged in to the UPS");
-        words.push(word.conflicts_with_all(&["attached", "tracked", "VAR"])?)?;
-        let word = arg!(in alloc; --attached
-            "Print the number of clients that are logged in to the UPS");
-        words.push(word.conflicts_with_all(&["tracked", "VAR"])?)?;
-        let word = arg!(in alloc; --tracked <ID>
-            "Print how the order with this id ended, or PENDING");
-        words.push(word.conflicts_with("VAR")?)?;
-        let word = arg!(in alloc; UPS: ["UPS|HOST"]
-            "The UPS, as ups[@host[:port]]; with -l or -L the server, as host[:port]");
-        words.push(word.required_unless_present_any(&["l", "L"])?)?;
-        let word = arg!(in alloc; [VAR] "Print only the value of this variable");
-        words.push(word)?;
-        Ok(words)
+    fn words() -> &'static [Word] {
+        &WORDS
     }
 
     fn given<'a>(matches: &ArgMatches<'a>) -> Given<'a> {

@@ -1,13 +1,13 @@
 -- The words that upscmd takes, and what they ask for.
 use Rattle.std.specs.Prelude.{List, ◌∷◌, [], true, false, codes}
 use Rattle.clap.specs.declared.parser.matches.ArgMatches.{ArgMatches}
-use Rattle.nutcommand.specs.Words.{IsFlag, IsGiven, IsMaybe, Word, Excludes, StandsUnless, Free}
-use Rattle.nutcommand.specs.Words.{long_flag, operand, required, short_flag, short_option}
+use Rattle.nutcommand.specs.Words.{Excludes, Free, IsFlag, IsGiven, IsMaybe, Required, Row}
+use Rattle.nutcommand.specs.Words.{StandsUnless, long_flag, operand, short_flag, short_option}
 use Rattle.nutclient.specs.declared.given.Given.{Given}
 use Rattle.nutclient.specs.declared.given.Given.TheVariants.{Command, Commands}
 
 -- `upscmd -l UPS` and `upscmd -u USER -p PASS [--track] UPS CMD [VALUE]`.
-abbrev pub upscmd_words : List Word
+abbrev pub upscmd_words : List Row
 upscmd_words = (
   short_flag (codes "l") 108,
   Excludes
@@ -16,7 +16,7 @@ upscmd_words = (
     ∷ (short_option (codes "u") 117, StandsUnless (codes "l" ∷ []))
     ∷ (short_option (codes "p") 112, StandsUnless (codes "l" ∷ []))
     ∷ (long_flag (codes "track"), Free)
-    ∷ (required (operand (codes "UPS")), Free)
+    ∷ (operand (codes "UPS"), Required)
     ∷ (operand (codes "CMD"), StandsUnless (codes "l" ∷ []))
     ∷ (operand (codes "VALUE"), Free) ∷ []
 

@@ -4,14 +4,27 @@
 ghost use Rattle.nutclient.specs.declared.program.Program.TheVariants as program;
 ghost use Rattle.upscmd.specs.Words.{IsAsked, upscmd_words};
 
-use clap::{Arg, ArgMatches, arg};
+use clap::ArgMatches;
 use nutclient::{Client, Given, Program, Sender, main_of};
-use std::alloc::{AllocError, Global};
+use nutcommand::{Word, words};
 use std::process::ExitCode;
 
 fn main(rt: HostRuntime) -> ExitCode {
     main_of::<Upscmd>(&rt)
 }
+
+/// Its words.
+static WORDS: [Word; 7] = words! {
+    "l": ShortFlag('l'), Excludes("u", "p", "track", "CMD", "VALUE"),
+        "List the commands of the UPS";
+    "u": ShortOption('u', "USER"), StandsUnless("l"), "The user's name";
+    "p": ShortOption('p', "PASS"), StandsUnless("l"), "The user's password";
+    "track": LongFlag, Free,
+        "Have the server track the order, and print its id instead of OK";
+    "UPS": Operand("UPS"), Required, "The UPS, as ups[@host[:port]]";
+    "CMD": Operand("CMD"), StandsUnless("l"), "The command to send";
+    "VALUE": Operand("VALUE"), Free, "A value for the command";
+};
 
 /// The program.
 struct Upscmd;
@@ -30,24 +43,8 @@ impl Client for Upscmd {
     const EXAMPLE: &'static str =
         "Example: upscmd -u admin -p change-me su@localhost test.battery.start";
 
-    fn words(alloc: Global) -> Result<Vec<Arg<'static>>, AllocError> {
-        let mut words = Vec::new(alloc);
-        let word = arg!(in alloc; l: -'l' "List the commands of the UPS");
-        words.push(word.conflicts_with_all(&["u", "p", "track", "CMD", "VALUE"])?)?;
-        let word = arg!(in alloc; u: -'u' <USER> "The user's name");
-        words.push(word.required_unless_present("l")?)?;
-        let word = arg!(in alloc; p: -'p' <PASS> "The user's password");
-        words.push(word.required_unless_present("l")?)?;
-        let word = arg!(in alloc; --track
-            "Have the server track the order, and print its id instead of OK");
-        words.push(word)?;
-        let word = arg!(in alloc; <UPS> "The UPS, as ups[@host[:port]]");
-        words.push(word)?;
-        let word = arg!(in alloc; [CMD] "The command to send");
-        words.push(word.required_unless_present("l")?)?;
-        let word = arg!(in alloc; [VALUE] "A value for the command");
-        words.push(word)?;
-        Ok(words)
+    fn words() -> &'static [Word] {
+        &WORDS
     }
 
     fn given<'a>(matches: &ArgMatches<'a>) -> Given<'a> {

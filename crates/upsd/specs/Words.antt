@@ -5,22 +5,16 @@ use Rattle.clap.specs.Words.{App, FailsBy, HasMatchesOf, Shape, Text, fault_of, 
 use Rattle.clap.specs.declared.builder.value_parser.ValueParser.TheVariants.{Unsigned}
 use Rattle.clap.specs.declared.error.Error.{Error}
 use Rattle.clap.specs.declared.parser.matches.ArgMatches.{ArgMatches}
-use Rattle.nutcommand.specs.Words.{Free, Word, long_flag, long_option, operand, required, with_words}
+use Rattle.nutcommand.specs.Words.{Free, Required, Row, long_flag, long_option, operand, with_words}
 use Rattle.nutcore.specs.declared.max_age.TheConstants.{MAX_AGE_LEAST, MAX_AGE_MOST}
 use Rattle.upsd.specs.declared.task.TheConstants.{DEFAULT_ADDRESS, RECORD_MIB_MOST}
 
-abbrev pub record_limit : Word
-record_limit = (
-  record (long_option (codes "record-limit")) { parser = Some (Unsigned 1 RECORD_MIB_MOST) },
-  Free,
-)
-
 -- `serve --ups F --users F [--vars F] [--ids F] [--listen A:P] [--maxage N] [--record F]
 -- [--record-limit N] [--priorities]`. The address is the default one where none is named.
-abbrev pub serve_words : List Word
+abbrev pub serve_words : List Row
 serve_words =
-    (required (long_option (codes "ups")), Free)
-    ∷ (required (long_option (codes "users")), Free)
+    (long_option (codes "ups"), Required)
+    ∷ (long_option (codes "users"), Required)
     ∷ (long_option (codes "vars"), Free) ∷ (long_option (codes "ids"), Free)
     ∷ (record (long_option (codes "listen")) { defaults = DEFAULT_ADDRESS.now ∷ [] }, Free)
     ∷ (
@@ -30,18 +24,21 @@ serve_words =
       Free,
     )
     ∷ (long_option (codes "record"), Free)
-    ∷ record_limit
+    ∷ (
+      record (long_option (codes "record-limit")) { parser = Some (Unsigned 1 RECORD_MIB_MOST) },
+      Free,
+    )
     ∷ (long_flag (codes "priorities"), Free) ∷ []
 
 abbrev pub serve_app : App
 serve_app = with_words (new_app (codes "serve")) serve_words
 
 -- `replay [--ups F] [--users F] [--vars F] SCRIPT`.
-abbrev pub replay_words : List Word
+abbrev pub replay_words : List Row
 replay_words =
     (long_option (codes "ups"), Free)
     ∷ (long_option (codes "users"), Free) ∷ (long_option (codes "vars"), Free)
-    ∷ (required (operand (codes "SCRIPT")), Free) ∷ []
+    ∷ (operand (codes "SCRIPT"), Required) ∷ []
 
 abbrev pub replay_app : App
 replay_app = with_words (new_app (codes "replay")) replay_words

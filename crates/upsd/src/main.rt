@@ -5,11 +5,10 @@ ghost use Rattle.std.specs.Prelude.{◌≡◌, Err, IfOk, None, codes, map, stri
 ghost use Rattle.std.specs.Process.{exit_status};
 ghost use Rattle.clap.specs.Words.{app_of, kind_of, subcommand_name_of};
 ghost use Rattle.nutcommand.specs.Refusal.{refusal_status};
-ghost use Rattle.nutcommand.specs.Words.{AreWords, Free, IsWord, long_option};
 ghost use Rattle.upsd.specs.Ending.{status_of};
 ghost use Rattle.upsd.specs.Task.{AsksNothing};
 ghost use Rattle.upsd.specs.declared.ending.TheConstants.{FAULT};
-ghost use Rattle.upsd.specs.Words.{AreRead, record_limit, replay_app, replay_words, serve_app, serve_words};
+ghost use Rattle.upsd.specs.Words.{AreRead, replay_app, serve_app};
 
 mod ending;
 mod files;
@@ -30,8 +29,8 @@ use crate::serve::serve_files;
 use crate::task::{DEFAULT_ADDRESS, RECORD_MIB_MOST, Task, task_of};
 use crate::warnings::warn;
 use clap::builder::ValueParser;
-use clap::{Arg, ArgMatches, Command, Error, arg};
-use nutcommand::{print_refusal, with_words, words_of};
+use clap::{ArgMatches, Command, Error};
+use nutcommand::{Word, print_refusal, with_words, words, words_of};
 use nutcore::{MAX_AGE_LEAST, MAX_AGE_MOST};
 use nutio::CountedWriter;
 use nutversion::VERSION;
@@ -78,48 +77,37 @@ fn serve_command<'a>(alloc: Global) -> Result<Command<'a>, AllocError>
     let serve = Command::new(alloc, "serve")
         .about("Serves the state of UPSs to clients on the network")
         .after_help(SERVE_NOTES);
-    with_words(serve, serve_words(alloc)?)
+    with_words(alloc, serve, &SERVE_WORDS)
 }
 
 /// The words of `serve`.
-fn serve_words(alloc: Global) -> Result<Vec<Arg<'static>>, AllocError>
-    ensures { IfOk result (λ words. AreWords serve_words words.items) }
-{
-    let ups = arg!(in alloc; --ups <F> "The list of UPSs, upsd.ups(5); not NUT's ups.conf");
-    let listen = arg!(in alloc; --listen <"A:P"> "The IP address and port for clients");
-    Ok(vec![in alloc;
-        ups.required(true),
-        arg!(in alloc; --users <F> "The users and their rights, upsd.users(5)").required(true),
-        vars(alloc),
-        arg!(in alloc; --ids <F>
-            "Source of the ids of tracked orders, such as /dev/urandom [without it: no ids]"),
-        listen.default_value(DEFAULT_ADDRESS),
-        arg!(in alloc; --maxage <N>
-            "Seconds without a line from its driver until a UPS is stale [without it: 15]")
-        .value_parser(ValueParser::unsigned(MAX_AGE_LEAST as u64, MAX_AGE_MOST as u64)),
-        record_file(alloc),
-        record_limit(alloc),
-        arg!(in alloc; --priorities
-            "Begin each line of the journal with its priority, as systemd reads it"),
-    ]?)
-}
+static SERVE_WORDS: [Word; 9] = words! {
+    "ups": LongOption("F"), Required, "The list of UPSs, upsd.ups(5); not NUT's ups.conf";
+    "users": LongOption("F"), Required, "The users and their rights, upsd.users(5)";
+    "vars": LongOption("F"), Free, VARS;
+    "ids": LongOption("F"), Free,
+        "Source of the ids of tracked orders, such as /dev/urandom [without it: no ids]";
+    "listen": Preset("A:P", DEFAULT_ADDRESS), Free, "The IP address and port for clients";
+    "maxage": Parsed("N", ValueParser::Unsigned(MAX_AGE_LEAST as u64, MAX_AGE_MOST as u64)), Free,
+        "Seconds without a line from its driver until a UPS is stale [without it: 15]";
+    "record": LongOption("F"), Free,
+        "Writes each event into the new file F, passwords too, for replay";
+    "record-limit": Parsed("N", ValueParser::Unsigned(1, RECORD_MIB_MOST)), Free,
+        "The most MiB of that file [without it: 64]";
+    "priorities": LongFlag, Free,
+        "Begin each line of the journal with its priority, as systemd reads it";
+};
 
-/// The word that names the file of a record.
-fn record_file(alloc: Global) -> Arg<'static>
-    ensures { IsWord (long_option (codes "record"), Free) result }
-{
-    arg!(in alloc; --record <F>
-        "Writes each event into the new file F, passwords too, for replay")
-}
+/// The words of `replay`.
+static REPLAY_WORDS: [Word; 4] = words! {
+    "ups": LongOption("F"), Free, "The list of UPSs, upsd.ups(5) [without it: only su]";
+    "users": LongOption("F"), Free, "The users and their rights, upsd.users(5) [without it: none]";
+    "vars": LongOption("F"), Free, VARS;
+    "SCRIPT": Operand("SCRIPT"), Required, "The script of events";
+};
 
-/// The word that limits a record.
-fn record_limit(alloc: Global) -> Arg<'static>
-    ensures { IsWord record_limit result }
-{
-    arg!(in alloc; --"record-limit" <N> "The most MiB of that file [without it: 64]").value_parser(
-        ValueParser::unsigned(1, RECORD_MIB_MOST),
-    )
-}
+/// What the help says of the file of the descriptions.
+const VARS: &str = "Descriptions of variables and commands, upsd.vars(5) [without it: none]";
 
 /// `replay` and its words.
 fn replay_command<'a>(alloc: Global) -> Result<Command<'a>, AllocError>
@@ -128,27 +116,7 @@ fn replay_command<'a>(alloc: Global) -> Result<Command<'a>, AllocError>
     let replay = Command::new(alloc, "replay")
         .about("Replays a script of events and prints what the server sent")
         .after_help("Example: upsd replay data/first.txt");
-    with_words(replay, replay_words(alloc)?)
-}
-
-/// The words of `replay`.
-fn replay_words(alloc: Global) -> Result<Vec<Arg<'static>>, AllocError>
-    ensures { IfOk result (λ words. AreWords replay_words words.items) }
-{
-    Ok(vec![in alloc;
-        arg!(in alloc; --ups <F> "The list of UPSs, upsd.ups(5) [without it: only su]"),
-        arg!(in alloc; --users <F> "The users and their rights, upsd.users(5) [without it: none]"),
-        vars(alloc),
-        arg!(in alloc; <SCRIPT> "The script of events"),
-    ]?)
-}
-
-/// The word that names the file of the descriptions.
-fn vars(alloc: Global) -> Arg<'static>
-    ensures { IsWord (long_option (codes "vars"), Free) result }
-{
-    arg!(in alloc; --vars <F>
-        "Descriptions of variables and commands, upsd.vars(5) [without it: none]")
+    with_words(alloc, replay, &REPLAY_WORDS)
 }
 
 /// Prints what the parser of the words says: the help, the version, or a fault of the words.

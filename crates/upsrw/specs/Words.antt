@@ -2,19 +2,19 @@
 use Rattle.std.specs.Prelude.{◌≡◌, List, ◌∷◌, [], Some, None, codes}
 use Rattle.clap.specs.Words.{first_value, found_of}
 use Rattle.clap.specs.declared.parser.matches.ArgMatches.{ArgMatches}
-use Rattle.nutcommand.specs.Words.{IsFlag, IsGiven, Word, Needs, Free, long_flag, operand, required}
+use Rattle.nutcommand.specs.Words.{IsFlag, IsGiven, Needs, Required, Row, long_flag, operand}
 use Rattle.nutcommand.specs.Words.{short_option}
 use Rattle.nutclient.specs.declared.given.Given.{Given}
 use Rattle.nutclient.specs.declared.given.Given.TheVariants.{Set, Writable}
 
 -- `upsrw [-s VAR=VALUE -u USER -p PASS [--track]] UPS`.
-abbrev pub upsrw_words : List Word
+abbrev pub upsrw_words : List Row
 upsrw_words =
     (short_option (codes "s") 115, Needs (codes "u" ∷ codes "p" ∷ []))
     ∷ (short_option (codes "u") 117, Needs (codes "s" ∷ []))
     ∷ (short_option (codes "p") 112, Needs (codes "s" ∷ []))
     ∷ (long_flag (codes "track"), Needs (codes "s" ∷ []))
-    ∷ (required (operand (codes "UPS")), Free) ∷ []
+    ∷ (operand (codes "UPS"), Required) ∷ []
 
 -- What is asked for by the words that were found: a variable is set where `-s` was given.
 abbrev pub IsAsked : ArgMatches → Given → Type 0

@@ -4,14 +4,24 @@
 ghost use Rattle.nutclient.specs.declared.program.Program.TheVariants as program;
 ghost use Rattle.upsrw.specs.Words.{IsAsked, upsrw_words};
 
-use clap::{Arg, ArgMatches, arg};
+use clap::ArgMatches;
 use nutclient::{Client, Given, Program, Sender, main_of};
-use std::alloc::{AllocError, Global};
+use nutcommand::{Word, words};
 use std::process::ExitCode;
 
 fn main(rt: HostRuntime) -> ExitCode {
     main_of::<Upsrw>(&rt)
 }
+
+/// Its words.
+static WORDS: [Word; 5] = words! {
+    "s": ShortOption('s', "VAR=VALUE"), Needs("u", "p"), "Set the variable to the value";
+    "u": ShortOption('u', "USER"), Needs("s"), "The user's name, for -s";
+    "p": ShortOption('p', "PASS"), Needs("s"), "The user's password, for -s";
+    "track": LongFlag, Needs("s"),
+        "Have the server track the order, and print its id instead of OK, for -s";
+    "UPS": Operand("UPS"), Required, "The UPS, as ups[@host[:port]]";
+};
 
 /// The program.
 struct Upsrw;
@@ -31,20 +41,8 @@ impl Client for Upsrw {
     const EXAMPLE: &'static str =
         "Example: upsrw -s ups.delay=30 -u admin -p change-me su@localhost";
 
-    fn words(alloc: Global) -> Result<Vec<Arg<'static>>, AllocError> {
-        let mut words = Vec::new(alloc);
-        let word = arg!(in alloc; s: -'s' <"VAR=VALUE"> "Set the variable to the value");
-        words.push(word.requires_all(&["u", "p"])?)?;
-        let word = arg!(in alloc; u: -'u' <USER> "The user's name, for -s");
-        words.push(word.requires_arg("s")?)?;
-        let word = arg!(in alloc; p: -'p' <PASS> "The user's password, for -s");
-        words.push(word.requires_arg("s")?)?;
-        let word = arg!(in alloc; --track
-            "Have the server track the order, and print its id instead of OK, for -s");
-        words.push(word.requires_arg("s")?)?;
-        let word = arg!(in alloc; <UPS> "The UPS, as ups[@host[:port]]");
-        words.push(word)?;
-        Ok(words)
+    fn words() -> &'static [Word] {
+        &WORDS
     }
 
     fn given<'a>(matches: &ArgMatches<'a>) -> Given<'a> {

@@ -1,6 +1,7 @@
-use Rattle.std.proofs.Common.{◌≡◌, ◌∙◌, ap, codes}
+use Rattle.std.proofs.Common.{◌≡◌, ◌∙◌, ap, codes, subst, IfOk}
 use Rattle.clap.specs.Simple.{app_of_fields}
 use Rattle.clap.specs.Words.{app_of, new_app}
+use Rattle.nutcommand.specs.Words.{with_words}
 use Rattle.upsd.specs.Words.{serve_words}
 use Rattle.upsd.proofs.serve_command.Goals as goal
 
@@ -8,4 +9,4 @@ pub returns : goal.returns
 returns c =
     let begun : app_of c.after_help-serve.result ≡ new_app (codes "serve") =
     ap app_of_fields c.after_help-serve.ensures ∙ ap app_of_fields c.about.ensures ∙ c.new.ensures.app in
-    c.with_words.ensures (new_app (codes "serve")) serve_words begun c.in_ok-serve_words.ensures
+    subst (λ a. IfOk c.with_words.result (λ made. app_of made ≡ with_words a serve_words)) begun c.with_words.ensures.app

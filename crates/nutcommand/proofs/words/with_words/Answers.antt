@@ -1,48 +1,39 @@
-use Rattle.std.proofs.Common.{◌≡◌, ◌∙◌, ap, List, [], ◌∷◌, ◌++◌, length, refl, sym, subst, append_assoc, append-nil, arith}
-use Rattle.std.specs.Vec.Iter.{into_iter_items}
-use Rattle.clap.specs.Words.{AddsArg, AddsInTurn, App, app_of, rule_of, with_rule}
+use Rattle.std.proofs.Common.{◌≡◌, ◌∙◌, ◌+◌, ◌<◌, ℕ, ap, List, [], ◌∷◌, drop, get_or, length, map, refl, sym, subst}
+use Rattle.std.proofs.lemmas.List.{drop_all, drop_more}
+use Rattle.clap.specs.Words.{AddsArg, app_of, rule_of, with_rule}
 use Rattle.clap.specs.declared.builder.arg.Arg.{Arg}
 use Rattle.clap.specs.declared.builder.command.Command.{Command}
-use Rattle.nutcommand.specs.Words.{AreWords, Word, with_words}
+use Rattle.nutcommand.specs.Words.{IsWord, Row, TakesWords, bond_of, row_of, rule_by_form, with_words}
+use Rattle.nutcommand.specs.declared.words.Word.{Word}
 use Rattle.nutcommand.proofs.words.with_words.Goals as goal
 
--- a command to which the words are added in turn takes them
-taken : (words : List Word) (args : List Arg) (old new : Command) (app : App) → AreWords words args → app_of old ≡ app
-    → AddsInTurn AddsArg old args new → app_of new ≡ with_words app words
-taken [] [] old new app are begun same = ap app_of (sym same) ∙ begun
-taken ((rule, bond) ∷ words) (arg ∷ args) old new app (((read, local), bonds), rest) begun (next, adds, more) =
-    taken words args next new _ rest (adds.shape local ∙ ap (λ a. with_rule a (rule_of arg)) begun ∙ ap (with_rule app) read) more
-taken [] (arg ∷ args) old new app are begun adds = absurd are
-taken (word ∷ words) [] old new app are begun adds = absurd are
+-- a command that takes the words is read by their rules
+taken : (rows : List Row) (old new : Command) → TakesWords rows old new → app_of new ≡ with_words (app_of old) rows
+taken [] old new takes = ap app_of (sym takes)
+taken ((rule, bond) ∷ rows) old new (arg, next, ((read, local), bonds), adds, more) =
+    taken rows next new more ∙ ap (λ a. with_words a rows) (adds.shape local ∙ ap (with_rule (app_of old)) read)
 
--- one more, after those in turn
-added_more : (old mid new : Command) (xs : List Arg) (x : Arg) → AddsInTurn AddsArg old xs mid → AddsArg mid x new
-    → AddsInTurn AddsArg old (xs ++ x ∷ []) new
-added_more old mid new [] x h adds = (new, subst (λ o. AddsArg o x new) (sym h) adds, refl)
-added_more old mid new (y ∷ ys) x h adds = (h.0, h.1, added_more h.0 mid new ys x h.2 adds)
-
-nothing_left : (xs : List Arg) → length xs ≡ 0 → xs ≡ []
-nothing_left [] h = refl
-nothing_left (x ∷ xs) h = absurd (omega arith)
+-- a word, and those behind it
+next_word : (words : List Word) (i : ℕ) (d : Word) (made arg : Arg) (old new end : Command) → i < length words
+    → rule_of made ≡ rule_by_form (get_or words i d).name.now (get_or words i d).form
+    → IsWord (rule_of made, bond_of (get_or words i d).bond) arg → AddsArg old arg new
+    → TakesWords (map row_of (drop (i + 1) words)) new end → TakesWords (map row_of (drop i words)) old end
+next_word words i d made arg old new end below read is adds takes =
+    let bond = bond_of (get_or words i d).bond in
+    subst (λ ws. TakesWords (map row_of ws) old end) (sym (drop_more words i d below))
+    (arg, new, subst (λ rule. IsWord (rule, bond) arg) read is, adds, takes)
 
 pub loop-word-preserved : goal.loop-word-preserved
-loop-word-preserved c =
-    let at = c.loop-word in
-    let x = c.in-Some.word in
-    let steps : into_iter_items at.word-iterator ≡ x ∷ into_iter_items c.next.new.self = c.in-Some.ensures.steps.0 in (
-      append_assoc at.yielded (x ∷ []) _ ∙ rw (← steps) at.invariant.0,
-      added_more _ _ _ at.yielded x at.invariant.1 c.in_ok-command.ensures,
-      let was = at.invariant.2 in
-          let gone = c.in-Some.ensures.steps.1 in
-          let short = ap length steps in
-          omega arith,
-    )
+loop-word-preserved c end takes =
+    let read = c.argument.ensures.read in
+    c.loop-word.invariant end (next_word c.args.words.now c.loop-word.word-index _ c.argument.result c.in_ok-bound.field-0
+    c.loop-word.command c.in_ok-command.command end c.loop-word-test.true read.0
+    (c.in_ok-bound.ensures c.argument.ensures.free read.1) c.in_ok-command.ensures takes)
 
 pub returns : goal.returns
-returns c app table is are =
-    let at = c.loop-word in
-    let none = c.in-None.ensures.steps in
-    let empty : into_iter_items at.word-iterator ≡ [] = nothing_left _ (sym at.invariant.2 ∙ none.0) in
-    let all = sym (append-nil at.yielded) ∙ rw empty at at.invariant.0 ∙ c.into_iter-word-iterator.ensures.into_iter_gives.0 in
-    taken table c.args.words.items c.args.command at.command app are is
-    (subst (λ l. AddsInTurn AddsArg c.args.command l at.command) all at.invariant.1)
+returns c =
+    let words = c.args.words.now in
+    let l = c.loop-word in
+    let none : drop l.word-index words ≡ [] = drop_all l.word-index words c.loop-word-test.false in
+    let takes = l.invariant l.command (subst (λ ws. TakesWords (map row_of ws) l.command l.command) (sym none) refl) in
+    record { takes = takes; app = taken (map row_of words) c.args.command l.command takes }
