@@ -21,14 +21,11 @@ const LOSS_LIMIT: u64 = 2;
 /// In seconds.
 const MINUTE: u64 = 60;
 
-/// How many places a UPS may have: each is a byte.
-const PLACES: usize = 256;
-
 /// The sessions of which a refusal was logged in this second.
 pub type Refused = ArrayVec<ClientId, REFUSAL_LIMIT>;
 
-/// The drivers, by the places of their UPSs.
-type Drivers = [Driver; PLACES];
+/// The drivers, by the places of their UPSs. Each place is a byte.
+type Drivers = [Driver; 256];
 
 /// What was noted of a driver, and wasn't logged yet.
 #[derive(Clone, Copy, Default)]
@@ -69,7 +66,7 @@ impl Journal {
             log: LogBuffer::new(alloc, service.priorities)?,
             moment: None,
             refused: Refused::new(),
-            drivers: [Driver::default(); PLACES],
+            drivers: [Driver::default(); 256],
             max_age: u64::from(service.max_age.seconds()),
             sent_away: 0,
             is_record_cut: false,
@@ -86,14 +83,17 @@ impl Journal {
             → self.new.refused.items ≡ after_notes [] server.now.notes }
     {
         let moment = Some(server.current_moment());
-        let is_new = mem::replace(&mut self.moment, moment) != moment;
-        if is_new {
+        if mem::replace(&mut self.moment, moment) != moment {
             self.refused.clear();
             self.log_news(server, sockets);
         } else if server.notes().is_empty() {
             return;
         }
-        self.write_notes(server);
+        for note in server.notes() {
+            if take_turn(&mut self.refused, note) {
+                log_note(&mut self.log, &mut self.drivers, server, note);
+            }
+        }
         self.log.flush(rt);
     }
 
@@ -108,25 +108,22 @@ impl Journal {
         let moment = server.current_moment();
         for place in 0..server.ups().len() {
             let u = UpsId { place: place as u8 };
-            let ups = server.ups().name(u);
-            let driver = &mut drivers[place];
-            let (count, fault) = mem::replace(&mut driver.refused, (0, None));
+            let (ups, driver) = (server.ups().name(u), &mut drivers[place]);
+            let (count, fault) = mem::take(&mut driver.refused);
             let line = format_args!("lines of the driver refused: {count}, the last one");
             match fault {
                 Some(fault) => log.add(INFO, ups, &format_args!("{line}: {fault}")),
                 None => log.add_if(count > 0, INFO, ups, &format_args!("{line}: no such order")),
             }
             let was = mem::replace(&mut driver.error, sockets.driver_error(u));
-            if let (Some(number), true) = (driver.error, driver.error != was) {
-                let error = Error::from_raw_os_error(number);
-                log.add(INFO, ups, &format_args!("cannot connect: {error}"));
-            }
+            let due = driver.error.is_some() && driver.error != was;
+            let error = Error::from_raw_os_error(driver.error.unwrap_or(0));
+            log.add_if(due, INFO, ups, &format_args!("cannot connect: {error}"));
             let limit = moment.saturating_sub(self.max_age);
-            let was = driver.awaited;
-            driver.awaited = was.filter(|since| *since >= limit);
-            log.add_if(was != driver.awaited, WARNING, ups, &"data stale");
+            let late = driver.awaited.take_if(|since| *since < limit);
+            log.add_if(late.is_some(), WARNING, ups, &"data stale");
             if moment % MINUTE == 0 {
-                let count = mem::replace(&mut driver.losses, 0);
+                let count = mem::take(&mut driver.losses);
                 let line = format_args!("driver lost {count} times in a minute");
                 log.add_if(count > LOSS_LIMIT, WARNING, ups, &line);
             }
@@ -135,23 +132,9 @@ impl Journal {
         let count = refusals.saturating_sub(mem::replace(&mut self.sent_away, refusals));
         let line = format_args!("clients sent away for want of room: {count}");
         log.add_if(count > 0, INFO, None, &line);
-        let was = mem::replace(&mut self.is_record_cut, is_cut);
+        let due = mem::replace(&mut self.is_record_cut, is_cut) != is_cut;
         let line = "the record has ended, at its limit or by a failed write";
-        log.add_if(was != self.is_record_cut, WARNING, None, &line);
-    }
-
-    /// Logs the notes, except for those that are logged once a second.
-    fn write_notes(&mut self, server: &Server)
-        ensures refused { self.new.refused.items
-            ≡ after_notes self.old.refused.items server.now.notes }
-        ensures moment { self.new.moment ≡ self.old.moment }
-    {
-        let notes = server.notes();
-        for note in notes {
-            if take_turn(&mut self.refused, note) {
-                log_note(&mut self.log, &mut self.drivers, server, note);
-            }
-        }
+        log.add_if(due, WARNING, None, &line);
     }
 }
 
@@ -174,10 +157,10 @@ fn log_note(log: &mut LogBuffer, drivers: &mut Drivers, server: &Server, note: &
     let name = |u: &UpsId| server.ups().name(*u);
     match note {
         Note::Data(u, state) => {
-            let (lost, awaited) = (*state == DataState::Lost, *state == DataState::Awaited);
             let driver = &mut drivers[u.place as usize];
-            driver.losses = driver.losses.saturating_add(u64::from(lost));
-            driver.awaited = awaited.then_some(server.current_moment());
+            let lost = u64::from(*state == DataState::Lost);
+            driver.losses = driver.losses.saturating_add(lost);
+            driver.awaited = (*state == DataState::Awaited).then_some(server.current_moment());
             let due = driver.losses <= LOSS_LIMIT;
             match state {
                 DataState::Lost => log.add_if(due, WARNING, name(u), &"driver lost"),
@@ -202,7 +185,7 @@ fn log_note(log: &mut LogBuffer, drivers: &mut Drivers, server: &Server, note: &
 /// Logs what a line of a client did. Each command has its name, what is said where it was granted, and the priority of
 /// that.
 fn add_deed(log: &mut LogBuffer, deed: &Deed) {
-    let (ups, who) = (deed.ups.as_ref(), &deed.who);
+    let (ups, name, who) = (deed.ups.as_ref(), deed.name.as_ref(), &deed.who);
     let (command, granted, priority) = match deed.verb {
         Verb::Login => ("LOGIN", "logged in", INFO),
         Verb::Primary => ("PRIMARY", "ordered PRIMARY", INFO),
@@ -210,17 +193,12 @@ fn add_deed(log: &mut LogBuffer, deed: &Deed) {
         Verb::SetVar => ("SET VAR", "ordered SET VAR", NOTICE),
         Verb::InstCmd => ("INSTCMD", "ordered INSTCMD", NOTICE),
     };
-    let (space, name) = match &deed.name {
-        Some(name) => (" ", name.as_bytes()),
-        None => ("", b"".as_slice()),
+    let name = name.map_or(b"".as_slice(), |name| name.as_bytes());
+    let (space, name) = (if name.is_empty() { "" } else { " " }, name.escape_ascii());
+    let Some(word) = &deed.refusal else {
+        return log.add(priority, ups, &format_args!("{who} {granted}{space}{name}"));
     };
-    let name = name.escape_ascii();
-    match &deed.refusal {
-        None => log.add(priority, ups, &format_args!("{who} {granted}{space}{name}")),
-        Some(word) => {
-            let word = word.as_bytes().escape_ascii();
-            let line = format_args!("{who} was refused {command}{space}{name}: {word}");
-            log.add(INFO, ups, &line);
-        }
-    }
+    let word = word.as_bytes().escape_ascii();
+    let line = format_args!("{who} was refused {command}{space}{name}: {word}");
+    log.add(INFO, ups, &line);
 }

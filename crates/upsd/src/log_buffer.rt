@@ -63,11 +63,9 @@ impl LogBuffer {
         if self.has_priorities {
             let _ = write!(text, "<{priority}>");
         }
-        let _ = text.write_str("upsd: ");
-        if let Some(ups) = ups {
-            let _ = write!(text, "{}: ", ups.as_bytes().escape_ascii());
-        }
-        let _ = writeln!(text, "{line}");
+        let name = ups.map_or(b"".as_slice(), |ups| ups.as_bytes());
+        let colon = if name.is_empty() { "" } else { ": " };
+        let _ = writeln!(text, "upsd: {}{colon}{line}", name.escape_ascii());
         self.add_line(text.as_bytes());
     }
 

@@ -42,16 +42,13 @@ pub fn warn(rt: &HostRuntime, files: Files<'_>, list: &UpsList, users: &Users) {
 /// Warns of a user. The passwords of the example are those of examples/upsd.users.
 fn warn_of_user(rt: &HostRuntime, path: &str, user: &User) {
     let (name, password) = (user.name().escape_ascii(), user.password());
-    let unset = password.is_none();
+    let tell = |is_so, danger: &str| warn_if(rt, is_so, path, &format_args!("[{name}]: {danger}"));
     let known = matches!(password, Some(b"change-me" | b"change-me-too"));
+    tell(known, "a password of the example, which everybody knows");
     let small = user.grants().iter().any(is_small_all);
-    for (is_so, danger) in [
-        (known, "a password of the example, which everybody knows"),
-        (small, "only ALL grants every command"),
-        (unset, "a user without a password, who may do nothing"),
-    ] {
-        warn_if(rt, is_so, path, &format_args!("[{name}]: {danger}"));
-    }
+    tell(small, "only ALL grants every command");
+    let unset = password.is_none();
+    tell(unset, "a user without a password, who may do nothing");
 }
 
 fn warn_if<D: Display>(rt: &HostRuntime, is_so: bool, path: &str, warning: &D) {
