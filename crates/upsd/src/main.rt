@@ -1,7 +1,7 @@
 //! upsd: a server that publishes the state of UPSs, as their drivers report it, on the network (RFC 9271).
 #![tactic(auto)]
 
-ghost use Rattle.std.specs.Prelude.{◌≡◌, Err, IfOk, None, codes, map, string_bytes, unwrap_or};
+ghost use Rattle.std.specs.Prelude.{◌≡◌, Err, IfOk, None, map, string_bytes, unwrap_or};
 ghost use Rattle.std.specs.Process.{exit_status};
 ghost use Rattle.clap.specs.Words.{app_of, kind_of, subcommand_name_of};
 ghost use Rattle.nutcommand.specs.Refusal.{refusal_status};
