@@ -21,11 +21,13 @@ pub fn ids_are_read_back()
 {}
 
 /// An id has 36 bytes, each a hexadecimal digit or a hyphen.
+#[tactic(auto, using(crate::proofs::PublicLaws::ids_are_plain))]
 pub fn ids_are_plain()
     ensures { IdsArePlain }
 {}
 
 /// Ids are used in the order in which they were taken in, each once for each time.
+#[tactic(auto, using(crate::proofs::PublicLaws::first_in_first_out))]
 pub fn ids_are_used_in_their_order()
     ensures { FirstInFirstOut }
 {}
@@ -40,12 +42,14 @@ pub fn an_id_stands_for_one_order()
 {}
 
 /// The kept orders are the last 256 that were given, pending or not.
+#[tactic(auto, using(crate::proofs::PublicLaws::the_last_are_kept))]
 pub fn the_last_orders_are_kept()
     ensures { TheLastAreKept }
 {}
 
 /// An order is pending until its UPS's driver first reports on its id. That report stays its result
 /// while the order is kept.
+#[tactic(auto, using(crate::proofs::PublicLaws::its_driver_settles_it_once))]
 pub fn its_driver_settles_an_order_once()
     ensures { ItsDriverSettlesItOnce }
 {}
