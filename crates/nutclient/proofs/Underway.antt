@@ -1,6 +1,5 @@
 -- Requests of which some are answered.
-use Rattle.std.proofs.Common.{◌≡◌, ℕ, List, [], ◌∷◌, ◌++◌, Option, Ok, Err, refl, sym, ap, subst, ◌∙◌, append_assoc}
-use Rattle.std.proofs.Common.{append-nil, drop, suc, length, get_or, add-one, ◌+◌, ◌<◌}
+use Rattle.std.proofs.Common.{◌≡◌, ℕ, List, [], ◌∷◌, ◌++◌, Option, Ok, Err, refl, sym, ap, subst, ◌∙◌, append_assoc, append-nil, drop, suc, length, get_or, add-one, ◌+◌, ◌<◌}
 use Rattle.std.proofs.Math.Seq.{drop-cons}
 use Rattle.nutio.specs.Ends.{Received, Written, IsBeginning}
 use Rattle.nutrequest.specs.Request.{request_line}
@@ -9,12 +8,9 @@ use Rattle.nutrequest.specs.Session.{AskGives}
 use Rattle.nutrequest.specs.declared.item.Item.{Item}
 use Rattle.nutrequest.specs.declared.request.Request.{Request}
 use Rattle.nutrequest.specs.declared.faults.ClientFault.{ClientFault}
-use Rattle.nutrequest.specs.declared.faults.ClientFault.TheVariants.{Connect, Read, Write, EarlyEnd, ErrWord}
-use Rattle.nutrequest.specs.declared.faults.ClientFault.TheVariants.{BadReply, BadTarget, Memory}
-use Rattle.nutclient.specs.Requests.{lines_behind, sent_lines, reply_behind, last_reply_after, last_reply}
-use Rattle.nutclient.specs.Requests.{RequestsGive}
-use Rattle.nutio.proofs.PublicLaws.{nothing_is_received, received_joins, read_failed_joins}
-use Rattle.nutio.proofs.PublicLaws.{nothing_is_written, written_joins, write_failed_joins}
+use Rattle.nutrequest.specs.declared.faults.ClientFault.TheVariants.{Connect, Read, Write, EarlyEnd, ErrWord, BadReply, BadTarget, Memory}
+use Rattle.nutclient.specs.Requests.{lines_behind, sent_lines, reply_behind, last_reply_after, last_reply, RequestsGive}
+use Rattle.nutio.proofs.PublicLaws.{nothing_is_received, received_joins, read_failed_joins, nothing_is_written, written_joins, write_failed_joins}
 
 module _ {R W : Type 0} (rem : R → Option (List ℕ)) (rf : R → ℕ) (con : W → Option (List ℕ)) (wf : W → ℕ)
     (all : List Request) (old : List ℕ) (reader : R) (writer : W) where

@@ -1,5 +1,5 @@
 -- What a client's lines leave of a UPS: all but a forced shutdown, and what its driver is owed, to which they add.
-use Rattle.std.proofs.Common.{◌≡◌, ◌∙◌, ℕ, zero, suc, Bool, true, false, List, [], ◌++◌, Option, Some, None, refl, sym, ap, cond, length, append_assoc, append-nil}
+use Rattle.std.proofs.Common.{◌≡◌, ◌∙◌, ℕ, zero, suc, Bool, true, false, List, [], ◌++◌, Option, Some, None, refl, sym, ap, cond, length, append_assoc, append-nil, inl, inr, arith}
 use Rattle.std.specs.List.{flat_map}
 use Rattle.nutcore.proofs.Common.{slice_get, flat_map-append, UpsId, Change, Event, SessionState, ServerState, session, ups_at, with_session_changed}
 use Rattle.nutcore.specs.Ups.{UpsState}
@@ -12,7 +12,6 @@ use Rattle.nutcore.specs.DriverOrders.{Telling, texts_of, told_by_change, told_b
 use Rattle.nutcore.proofs.Changed.{by_change}
 use Rattle.nutcore.proofs.Changes.{of_upses}
 use Rattle.nutcore.proofs.Found.{cases_Option}
-use Rattle.std.proofs.Common.{inl, inr, arith}
 use Rattle.nutcore.proofs.Pumping.{is_next, stopped_none, after_line_is, change_at}
 use Rattle.nutcore.proofs.UpsPlaces.{Stands, of_place}
 use Rattle.nutcore.proofs.DriverChanges.{Does, goes_on}

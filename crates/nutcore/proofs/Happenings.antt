@@ -9,7 +9,7 @@ use Rattle.nutcore.specs.Reply.{seen, seen_client, reply, changed_session, after
 use Rattle.nutcore.specs.Pump.{next_line_for, answered, after_line, is_overlong, notified}
 use Rattle.nutcore.specs.Step.{joined, with_input, taken_from, without_output, may_take, pumped_until, after_by, refused_after}
 use Rattle.nutcore.specs.History.{Execution, of_line, of_notice, client_of, text_of, executions_until, executions_by, executions, of_client, texts_of, answers}
-use Rattle.nutcore.specs.Happenings.{Happening, line_is_executed, notice_is_told, event_comes, happening_of, happened_in_event, happenings, without_bytes, apart_from_bytes, AnswersComeOfWhatHappens, AQuietTakeChangesWhatIsOwedAlone, IsAlike, AReplyComesOfWhatIsSeen}
+use Rattle.nutcore.specs.Happenings.{Happening, line_is_executed, notice_is_told, event_comes, happening_of, happened_in_event, happenings, without_bytes, apart_from_bytes, AnswersComeOfWhatHappens, IsAlike, AReplyComesOfWhatIsSeen}
 use Rattle.nutcore.proofs.Changed.{by_change, change_is}
 use Rattle.nutcore.proofs.Events.{core_event}
 use Rattle.nutcore.proofs.Found.{find_id, mapped_put}
@@ -23,26 +23,6 @@ use Rattle.std.specs.List.{fold}
 -- what is answered comes of what is seen
 pub reply_of_seen : AReplyComesOfWhatIsSeen
 reply_of_seen s t c d line same asks = record { reply = grind arith; change = grind arith }
-
--- a take by which nothing is executed
-nothing_both : (xs ys : List Execution) → xs ++ ys ≡ [] → (xs ≡ []) × (ys ≡ [])
-nothing_both [] ys e = (refl, e)
-nothing_both (x ∷ xs) ys e = cc e
-
-quiet_pump : (d : ℕ) → IsOfPump d (λ s xs t. xs ≡ [] → t ≡ s)
-quiet_pump d = record {
-  stays = λ s e. refl;
-  joins = λ s m t xs ys f g e. let none = nothing_both xs ys e in g none.1 ∙ f none.0;
-  by_line = λ s line next e. cc e;
-  by_notice = λ s long e. cc e;
-}
-
-pub quiet_take : AQuietTakeChangesWhatIsOwedAlone
-unfolding after_by executions_by
-quiet_take old new c n o step may quiet =
-    let begun : ServerState = without_output old c n in
-    let m : Option ℕ = refused_after o in
-    step.leaves ∙ rw may (until_keeps c (λ s xs t. xs ≡ [] → t ≡ s) (quiet_pump c) begun m (rw may at quiet))
 
 seen_without : (xs : List SessionState) → map seen_client (map without_bytes xs) ≡ map seen_client xs
 seen_without [] = refl

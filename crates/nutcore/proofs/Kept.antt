@@ -1,18 +1,16 @@
 -- What every part of an event keeps, every event and every run keeps.
-use Rattle.std.proofs.Common.{arith, ◌≤◌, ◌≡◌, ◌+◌, ℕ, zero, suc, true, List, [], ◌∷◌, ◌++◌, Option, Some, None, refl, sym, subst, cond, length, All, IfSome}
+use Rattle.std.proofs.Common.{arith, ◌≤◌, ◌≡◌, ◌+◌, ℕ, zero, suc, true, List, [], ◌∷◌, ◌++◌, Option, Some, None, refl, sym, subst, cond, length, All, IfSome, inl, inr}
 use Rattle.std.proofs.lemmas.List.Elements.{All-head, All-tail}
 use Rattle.nutcore.proofs.Common.{cond_both, UpsId, TrackingState, Event, Outcome, SessionState, UpsState, ServerState, session, with_session, with_session_changed, with_ups_changed, with_tracking, Run}
 use Rattle.nutdriver.specs.Report.{end_in}
 use Rattle.nutcore.specs.Reports.{with_end, after_ends}
 use Rattle.nutcore.specs.Session.{without, new_session}
-use Rattle.nutcore.specs.Pump.{next_line_for, after_line, after_lines, after_all_lines, after_notice, with_notice, pumped, held_of}
+use Rattle.nutcore.specs.Pump.{next_line_for, after_line, after_lines, after_all_lines, after_notice, with_notice, pumped, held_of, answered}
 use Rattle.nutcore.specs.Step.{joined, with_input, taken_from, without_output, may_take, may_open, ticked, pumped_until, handed_in, after_by, refused_after}
 use Rattle.nutcore.specs.Addresses.{opened_from}
 use Rattle.nutcore.specs.Reply.{reply}
-use Rattle.nutcore.specs.Pump.{answered}
 use Rattle.nutcore.proofs.Changes.{keeps}
 use Rattle.nutcore.proofs.Found.{cases_Option}
-use Rattle.std.proofs.Common.{inl, inr}
 use Rattle.nutcore.proofs.Pumping.{change_at, stopped_none, is_next, after_line_is, session_after}
 use Rattle.nutcore.proofs.Changed.{by_change, either_notice, of_opened}
 use Rattle.nutcore.proofs.Events.{OfDrivers, of_parts}

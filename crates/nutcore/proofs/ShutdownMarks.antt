@@ -12,14 +12,14 @@ use Rattle.nutdriver.specs.Report.{after_line as report_after, end_in}
 use Rattle.nutanswer.specs.declared.reply.Change.TheVariants as changes
 use Rattle.nutcore.specs.Reports.{with_end, is_unawaited}
 use Rattle.nutcore.specs.Ups.{with_fsd, after_outcome, after_texts}
-use Rattle.nutcore.specs.Reply.{changed_upses}
+use Rattle.nutcore.specs.Reply.{changed_upses, seen, seen_ups}
 use Rattle.nutcore.specs.Pump.{next_line_for, after_line, notified}
 use Rattle.nutcore.specs.Step.{after_by, joined, taken_from, opened, ticked}
-use Rattle.nutcore.specs.History.{Execution, of_line, of_notice}
-use Rattle.nutcore.specs.ByRight.{SetsShutdownByRight, WasShutDown, is_shut_down, AForcedShutdownReachesEverybody}
+use Rattle.nutcore.specs.History.{Execution, of_line, of_notice, executions}
+use Rattle.nutcore.specs.ByRight.{SetsShutdownByRight, WasShutDown, is_shut_down, AForcedShutdownReachesEverybody, IsByRight}
 use Rattle.nutcore.proofs.Changed.{by_change}
 use Rattle.nutcore.proofs.Changes.{of_upses as of_changed_upses}
-use Rattle.nutcore.proofs.UpsPlaces.{same_ups}
+use Rattle.nutcore.proofs.UpsPlaces.{same_ups, at_changed}
 use Rattle.nutcore.proofs.DriverText.{ups_after_text, ups_after_bytes}
 use Rattle.nutcore.proofs.Pumping.{is_next, after_line_is, change_at}
 use Rattle.nutcore.proofs.Rows.{comes_of_line, by_right}
@@ -31,11 +31,7 @@ use Rattle.nutanswer.specs.Checks.{KnownUps, ups_named}
 use Rattle.nutanswer.specs.View.{UpsSeen}
 use Rattle.nutanswer.proofs.PublicLaws.{a_named_ups_is_seen}
 use Rattle.nutusers.specs.declared.rights.Right.TheVariants as rights
-use Rattle.nutcore.specs.Reply.{seen, seen_ups}
-use Rattle.nutcore.specs.ByRight.{IsByRight}
-use Rattle.nutcore.specs.History.{executions}
 use Rattle.nutcore.proofs.FreshRuns.{mapped_at}
-use Rattle.nutcore.proofs.UpsPlaces.{at_changed}
 use Rattle.nutwords.specs.WholeLines.{whole_lines}
 
 -- the forced shutdown of the UPS at a place

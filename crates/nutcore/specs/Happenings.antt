@@ -1,13 +1,13 @@
 -- Answers depend only on which lines are executed, and when.
-use Rattle.std.specs.Prelude.{◌≡◌, ℕ, true, List, [], ◌∷◌, ◌++◌, Option, map}
+use Rattle.std.specs.Prelude.{◌≡◌, ℕ, List, [], ◌∷◌, ◌++◌, Option, map}
 use Rattle.nutanswer.specs.Command.{read_command}
 use Rattle.nutcore.specs.declared.event.Event.{Event}
 use Rattle.nutcore.specs.declared.event.Event.TheVariants.{Feed, Took}
 use Rattle.nutcore.specs.declared.event.Outcome.{Outcome}
 use Rattle.nutcore.specs.Session.{SessionState}
-use Rattle.nutcore.specs.Server.{ServerState, session}
+use Rattle.nutcore.specs.Server.{ServerState}
 use Rattle.nutcore.specs.Reply.{seen, asker, reply, change_by}
-use Rattle.nutcore.specs.Step.{Step, may_take, without_output, after, refused_after}
+use Rattle.nutcore.specs.Step.{after, refused_after}
 use Rattle.nutcore.specs.Run.{Run}
 use Rattle.nutcore.specs.History.{Execution, of_line, of_notice, executions_in_event, answers}
 
@@ -55,13 +55,6 @@ AnswersComeOfWhatHappens =
     (s s' t t' : ServerState) (es fs : List Event) (os ps : List Outcome) → Run s es os s'
     → Run t fs ps t' → apart_from_bytes s ≡ apart_from_bytes t
     → happenings s es os ≡ happenings t fs ps → AreAnsweredAlike s es os s' t fs ps t'
-
--- A take that executes nothing changes what its own client is owed, and nothing else.
-abbrev pub AQuietTakeChangesWhatIsOwedAlone : Type 0
-AQuietTakeChangesWhatIsOwedAlone =
-    (old new : ServerState) (c n : ℕ) (outcome : Outcome) → Step old (Took c n) outcome new
-    → may_take (session c old) n ≡ true → executions_in_event old (Took c n) outcome ≡ []
-    → new ≡ without_output old c n
 
 -- What is answered to a line, and what it changes, comes of what is seen of the server and of its
 -- own asker.

@@ -7,7 +7,7 @@ ghost use Rattle.nutcore.specs.Alone.{OneLineIsAnswered};
 ghost use Rattle.nutcore.specs.OrdersByRight.{EachOrderIsByRight, TheOrdersToldAreThoseOfTheLines};
 ghost use Rattle.nutcore.specs.TellingLines.{EachTellingIsAWholeLine};
 ghost use Rattle.nutcore.specs.Isolation.{AClientTouchesNoOther, ADriverTouchesNoOther, ARefusedEventChangesNothing, ARefusedEventCostsNothing};
-ghost use Rattle.nutcore.specs.Happenings.{AnswersComeOfWhatHappens, AQuietTakeChangesWhatIsOwedAlone, AReplyComesOfWhatIsSeen};
+ghost use Rattle.nutcore.specs.Happenings.{AnswersComeOfWhatHappens, AReplyComesOfWhatIsSeen};
 ghost use Rattle.nutcore.specs.Limits.{Limits};
 ghost use Rattle.nutcore.specs.Bounded.{EachEventIsBounded};
 ghost use Rattle.nutcore.specs.Notes.{NoNoteIsCut};
@@ -335,11 +335,6 @@ pub fn a_client_touches_no_other()
 #[tactic(auto, using(crate::proofs::Happenings::answers_of_happenings))]
 pub fn answers_come_of_what_happens()
     ensures { AnswersComeOfWhatHappens }
-{}
-
-/// A take that executes no line changes only what its client is owed.
-pub fn a_quiet_take_changes_what_is_owed_alone()
-    ensures { AQuietTakeChangesWhatIsOwedAlone }
 {}
 
 /// A reply depends only on the asking session and on what answers may look at: no other session's

@@ -1,6 +1,5 @@
 -- What clients and drivers take of what they are offered.
-use Rattle.std.proofs.Common.{refl, ◌≡◌, ◌≢◌, ℕ, ◌+◌, ◌<◌, ◌∙◌, List, [], sym, ap, subst, length, length-append, arith}
-use Rattle.std.proofs.Common.{Option, Some, None, Bool, true, false, ◌&&◌, eqb, take, if◌then◌else◌, ◌≤◌}
+use Rattle.std.proofs.Common.{refl, ◌≡◌, ◌≢◌, ℕ, ◌+◌, ◌<◌, ◌∙◌, List, [], sym, ap, subst, length, length-append, arith, Option, Some, None, Bool, true, false, ◌&&◌, eqb, take, if◌then◌else◌, ◌≤◌}
 use Rattle.std.proofs.lemmas.Grind.{common_steps}
 use Rattle.std.proofs.lemmas.Bool.Decides.{nat_tests}
 use Rattle.std.specs.Prelude.{is_some}

@@ -5,8 +5,7 @@ use Rattle.nutwords.specs.SplitLine.{split_line}
 use Rattle.nutwords.specs.Lines.{IsCutInto, Tail, Unfinished, Overlong, line as a_line, unfinished, overlong}
 use Rattle.nutwords.specs.WholeLines.{whole_lines, unfinished_after, tail_after}
 use Rattle.nutwords.specs.declared.limits.TheConstants.{LINE_ROOM}
-use Rattle.nutwords.proofs.PublicLaws.{first_line_is_cut_off, one_cutting}
-use Rattle.nutwords.proofs.PublicLaws.{whole_lines_are_the_cut, whole_lines_and_the_rest_are_all, rest_is_that_behind_the_first}
+use Rattle.nutwords.proofs.PublicLaws.{first_line_is_cut_off, one_cutting, whole_lines_are_the_cut, whole_lines_and_the_rest_are_all, rest_is_that_behind_the_first}
 use Rattle.nutrequest.specs.Lines.{lines, found, Line, TooLong}
 
 -- a cut of the bytes is the one of which the lines are made

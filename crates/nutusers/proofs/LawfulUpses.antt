@@ -6,11 +6,10 @@ use Rattle.std.proofs.lemmas.List.Elements.{All-nil, All-cons, All-append, All-h
 use Rattle.std.proofs.lemmas.List.Sorted.{All-permutation}
 use Rattle.nutwords.specs.Reading.{is_ups_name}
 use Rattle.nutusers.specs.ConfigLine.{ConfigLine, silent, malformed, section, setting, upsmon, read_config_line}
-use Rattle.nutusers.specs.File.{AreAccepted}
+use Rattle.nutusers.specs.File.{AreAccepted, once_fault}
 use Rattle.nutusers.specs.Sections.{last_of, in_section}
 use Rattle.nutusers.specs.SectionsStep.{with_last}
 use Rattle.nutusers.specs.Texts.{is_description}
-use Rattle.nutusers.specs.File.{once_fault}
 use Rattle.nutusers.specs.UpsFile.{upses_of, ups_format, ups_line_fault, ups_setting_fault, EachUpsThatIsReadIsLawful}
 use Rattle.nutusers.specs.UpsList.{Ups, new_ups, IsLawfulUps}
 use Rattle.nutusers.specs.UpsStep.{with_ups_line, upses_with}

@@ -1,18 +1,13 @@
 -- The order of names, by their bytes.
-use Rattle.std.specs.Prelude.{◌≡◌, ℕ, List, ◌∷◌, ◌++◌}
+use Rattle.std.specs.Prelude.{◌≡◌, ℕ, List}
 use Rattle.std.specs.Ordering.{nat_cmp}
 use Rattle.std.specs.declared.cmp.Ordering.{Ordering}
-use Rattle.std.specs.declared.cmp.Ordering.TheVariants.{Less, Equal}
+use Rattle.std.specs.declared.cmp.Ordering.TheVariants.{Equal}
 use Rattle.std.specs.Cmp.Lexicographic.{slice_cmp}
 
 -- Byte by byte, a beginning before what it begins.
 abbrev pub byte_order : List ℕ → List ℕ → Ordering
 byte_order = slice_cmp nat_cmp
-
--- The beginning of a name comes before the name.
-abbrev pub BeginningsComeFirst : Type 0
-BeginningsComeFirst =
-    (name : List ℕ) (next : ℕ) (more : List ℕ) → byte_order name (name ++ next ∷ more) ≡ Less
 
 -- Names are equal in the order only where they have the same bytes.
 abbrev pub EqualsAreSame : Type 0

@@ -1,14 +1,10 @@
 use Rattle.std.proofs.Common.{sym}
 use Rattle.std.proofs.lemmas.Cmp.{nat_list_cmp_total}
 use Rattle.std.proofs.lemmas.Map.Lookups.{exact_bytes}
-use Rattle.nutwords.proofs.NameOrderLaws.{beginning_first}
 use Rattle.nutwords.proofs.laws.names_are_ordered.Goals as goal
 
 pub returns-clause-total : goal.returns-clause-total
 returns-clause-total c = nat_list_cmp_total
-
-pub returns-clause-beginnings : goal.returns-clause-beginnings
-returns-clause-beginnings c = λ name next more. beginning_first name next more
 
 pub returns-clause-same : goal.returns-clause-same
 returns-clause-same c = λ name other equal. sym (exact_bytes name other equal)

@@ -6,8 +6,7 @@ use Rattle.nutanswer.specs.View.{asker_seen}
 use Rattle.nutanswer.specs.Answer.{Answer, one_line}
 use Rattle.nutanswer.specs.declared.err_word.ErrWord.{ErrWord}
 use Rattle.nutanswer.specs.Orders.{order, ok_words}
-use Rattle.nutanswer.specs.Promises.{CarriesAnswer, known_variable}
-use Rattle.nutanswer.specs.Promises.{live_variable, settable}
+use Rattle.nutanswer.specs.Promises.{CarriesAnswer, known_variable, live_variable, settable}
 use Rattle.nutanswer.proofs.Rows.{set_without, set_refused, set_without_id, set_full, set_done, settable_is}
 use Rattle.nutanswer.proofs.view.View.set_var.Goals as goal
 
