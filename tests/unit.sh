@@ -34,6 +34,7 @@ until [[ -S good && -S stale ]]; do sleep 0.05; done
 # Starts a server of these UPSs, and leaves its id and address.
 serve() {
     for ups in "$@"; do printf '[%s]\nsocket = %s\n' "$ups" "$folder/$ups"; done >upses.conf
+    : >said
     "$top/crates/upsd/out/upsd" serve --ups upses.conf --users users --listen 127.0.0.1:0 >said 2>told &
     server=$!
     running+=("$server")
