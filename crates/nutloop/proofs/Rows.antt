@@ -14,12 +14,13 @@ use Rattle.nutcore.specs.declared.event.Fault.{Fault}
 use Rattle.nutcore.specs.declared.event.Peer.{Peer}
 use Rattle.nutcore.specs.declared.event.Peer.TheVariants.{Client, Driver}
 use Rattle.nutcore.specs.declared.TheConstants.{HELD_LIMIT}
+use Rattle.nutcore.specs.declared.server.status.Standing.{Standing}
 use Rattle.nutcore.specs.Session.{SessionState}
 use Rattle.nutcore.specs.Ups.{UpsState}
 use Rattle.nutcore.specs.Server.{ServerState, session, ups_at}
 use Rattle.nutcore.specs.Step.{Step, offered}
 use Rattle.nutcore.specs.Run.{Run}
-use Rattle.nutcore.specs.Calls.{room_of, is_finished, owed_to, Reads, ReadsUps}
+use Rattle.nutcore.specs.Calls.{room_of, standing_of, is_finished, owed_to, Reads, ReadsUps}
 use Rattle.nutcore.specs.DriverHistory.{has_driver}
 use Rattle.nutloop.specs.declared.sockets.Ready.{Ready}
 use Rattle.nutloop.specs.declared.sockets.Ready.TheVariants.{Read}
@@ -141,15 +142,15 @@ row_of_event calls failures ready e o old sockets middle new after asked rows to
 not_zero : (n : ℕ) → (n ≡ 0 → ⊥) → eqb n 0 ≡ false
 not_zero n h = grind (arith, nat_tests)
 
-room_is : (n : ℕ) (o : Option SessionState) → Reads room_of o (Ok n) → option_map_or room_of o 0 ≡ n
-room_is n None h = cc
-room_is n (Some x) h = cc
+room_is : (w : Standing) (o : Option SessionState) → Reads standing_of o (Ok w) → option_map_or room_of o 0 ≡ w.room
+room_is w None h = cc
+room_is w (Some x) h = cc
 
-pub is_there : (n : ℕ) (o : Option SessionState) → Reads room_of o (Ok n) → is_some o ≡ true
-is_there n None h = cc
-is_there n (Some x) h = refl
+pub is_there : (w : Standing) (o : Option SessionState) → Reads standing_of o (Ok w) → is_some o ≡ true
+is_there w None h = cc
+is_there w (Some x) h = refl
 
-pub is_absent : (f : Fault) (o : Option SessionState) → Reads room_of o (Err f) → o ≡ None
+pub is_absent : (f : Fault) (o : Option SessionState) → Reads standing_of o (Err f) → o ≡ None
 is_absent f None h = refl
 is_absent f (Some x) h = cc
 
@@ -158,24 +159,24 @@ room_of_held : (ending : Bool) (held : ℕ) → (if ending then HELD_LIMIT else 
 room_of_held true held = omega arith
 room_of_held false held = omega arith
 
-room_fits : (n : ℕ) (o : Option SessionState) → Reads room_of o (Ok n) → n ≤ HELD_LIMIT
-room_fits n None h = cc
-room_fits n (Some x) h =
-    let is : room_of x ≡ n = cc in
+room_fits : (w : Standing) (o : Option SessionState) → Reads standing_of o (Ok w) → w.room ≤ HELD_LIMIT
+room_fits w None h = cc
+room_fits w (Some x) h =
+    let is : room_of x ≡ w.room = cc in
     subst (λ k. k ≤ HELD_LIMIT) is (room_of_held x.ending (length x.held))
 
 front_is_full : (n most : ℕ) → n ≤ most → length {A = ℕ} (take n (replicate most 0)) ≡ n
 front_is_full n most h = omega (arith, length-take {A = ℕ} n (replicate most 0), length-replicate {A = ℕ} most 0)
 
 -- The front of the buffer is as long as there is room.
-pub room_is_asked : (n : ℕ) (o : Option SessionState) → Reads room_of o (Ok n) → length {A = ℕ} (take n (replicate HELD_LIMIT 0)) ≡ n
-room_is_asked n o h = front_is_full n HELD_LIMIT (room_fits n o h)
+pub room_is_asked : (w : Standing) (o : Option SessionState) → Reads standing_of o (Ok w) → length {A = ℕ} (take w.room (replicate HELD_LIMIT 0)) ≡ w.room
+room_is_asked w o h = front_is_full w.room HELD_LIMIT (room_fits w o h)
 
-pub asks_read : (c n : ℕ) (s : ServerState) → Reads room_of (session c s) (Ok n) → (n ≡ 0 → ⊥) → ask s (Read (Client c)) ≡ reads (Client c) n
-asks_read c n s h some = rw (room_is n (session c s) h, not_zero n some) refl
+pub asks_read : (c : ℕ) (w : Standing) (s : ServerState) → Reads standing_of (session c s) (Ok w) → (w.room ≡ 0 → ⊥) → ask s (Read (Client c)) ≡ reads (Client c) w.room
+asks_read c w s h some = rw (room_is w (session c s) h, not_zero w.room some) refl
 
-pub asks_nobody : (c n : ℕ) (s : ServerState) → Reads room_of (session c s) (Ok n) → n ≡ 0 → ask s (Read (Client c)) ≡ nobody
-asks_nobody c n s h none = ap (read_of (Client c)) (room_is n (session c s) h ∙ none)
+pub asks_nobody : (c : ℕ) (w : Standing) (s : ServerState) → Reads standing_of (session c s) (Ok w) → w.room ≡ 0 → ask s (Read (Client c)) ≡ nobody
+asks_nobody c w s h none = ap (read_of (Client c)) (room_is w (session c s) h ∙ none)
 
 pub asks_nobody_there : (c : ℕ) (s : ServerState) → session c s ≡ None → ask s (Read (Client c)) ≡ nobody
 asks_nobody_there c s h = ap (λ o. read_of (Client c) (option_map_or room_of o 0)) h

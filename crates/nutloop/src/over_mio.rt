@@ -1,11 +1,10 @@
 //! The sockets over `mio`: clients come over TCP, and drivers are connected to over Unix sockets.
-ghost use Rattle.std.specs.Prelude.{◌≡◌, ◌*◌, ◌-◌, ◌∷◌, [], IfOk, None, OnOk};
+ghost use Rattle.std.specs.Prelude.{◌≡◌, ◌*◌, ◌-◌, ◌∷◌, [], IfOk, None};
 ghost use Rattle.nutio.specs.Ends.{IsCounted, counted};
 ghost use Rattle.nutloop.specs.Sockets.{Grows, nothing_told};
 ghost use Rattle.std.specs.Duration.{as_nanos};
-ghost use Rattle.nutloop.specs.Clock.{Ticks, next_second};
-ghost use Rattle.nutloop.specs.OverMio.{AnswersKnown, AnswersLook, GivesTurn, error_of, refused, turn_of};
-ghost use Rattle.nutloop.specs.Pass.{fresh};
+ghost use Rattle.nutloop.specs.Clock.{Ticks, next_second, tick_in};
+ghost use Rattle.nutloop.specs.OverMio.{AnswersKnown, AnswersLook, GivesTurn, error_of, refused};
 ghost use Rattle.nutloop.specs.declared.sockets.Call.TheVariants.{Refused};
 
 mod clients;
@@ -133,18 +132,6 @@ impl<'a, R: Net + Clock, F: Read + Drop> MioSockets<'a, R, F> {
         self.visit(server)
     }
 
-    /// What the system and the clock report.
-    fn first_turn(&mut self, server: &Server) -> io::Result<Ready>
-        ensures answers { IfOk result (λ ready.
-            AnswersLook server.now.state ready self.new) }
-        ensures failures { self.new.failures ≡ self.old.failures }
-    {
-        if let Some(second) = self.ask(server)? {
-            return Ok(Ready::Tick(second));
-        }
-        Ok(self.visit(server).unwrap_or(Ready::Nothing))
-    }
-
     /// The next turn of this pass, if one is left. The first one of a driver reports that it is connected.
     fn visit(&mut self, server: &Server) -> Option<Ready>
         ensures gives { GivesTurn server.now.state self.old self.old.pass result self.new.pass }
@@ -153,31 +140,36 @@ impl<'a, R: Net + Clock, F: Read + Drop> MioSockets<'a, R, F> {
     {
         let (drivers, clients) = (self.drivers.as_slice(), self.clients.as_slice());
         let knocked = self.door.is_knocked_at;
-        match self.pass.visit(server, knocked, drivers, clients)? {
-            Stop::Listener => Some(Ready::Newcomer),
+        let (peer, way) = match self.pass.visit(server, knocked, drivers, clients)? {
+            Stop::Listener => return Some(Ready::Newcomer),
             Stop::Driver(place, way) => {
                 let u = UpsId { place: place as u8 };
-                if server.driver_connected(u).unwrap_or(false) {
-                    Some(turn_of(Peer::Driver(u), way))
-                } else {
-                    Some(Ready::DriverUp(u))
+                if !server.driver_connected(u).unwrap_or(false) {
+                    return Some(Ready::DriverUp(u));
                 }
+                (Peer::Driver(u), way)
             }
             Stop::Client(place, way) => {
                 self.here = place;
-                match clients.get(place) {
-                    Some(Some(client)) => Some(turn_of(Peer::Client(client.id), way)),
-                    _ => Some(Ready::Nothing),
-                }
+                let Some(Some(client)) = clients.get(place) else {
+                    return Some(Ready::Nothing);
+                };
+                (Peer::Client(client.id), way)
             }
-        }
+        };
+        Some(match way {
+            Way::Read => Ready::Read(peer),
+            Way::Write => Ready::Write(peer),
+        })
     }
 
-    /// Asks the system, and waits for it up to the next tick where nobody had a turn; and the clock. The second, where it is
-    /// a new one.
-    fn ask(&mut self, server: &Server) -> io::Result<Option<u64>>
-        ensures pass { OnOk result (self.new.pass ≡ fresh) }
-        ensures tick { IfOk result (λ tick. Ticks tick self.old.second self.new.second) }
+    /// Asks the system, and waits for it up to the next tick where nobody had a turn; and the clock. A tick, where the
+    /// second is a new one, or else the first turn of a new pass.
+    fn first_turn(&mut self, server: &Server) -> io::Result<Ready>
+        ensures answers { IfOk result (λ ready.
+            AnswersLook server.now.state ready self.new) }
+        ensures tick { IfOk result (λ ready.
+            Ticks (tick_in ready) self.old.second self.new.second) }
         ensures failures { self.new.failures ≡ self.old.failures }
     {
         let is_left = self.closing.iter().any(|one| one.socket.readable);
@@ -195,7 +187,7 @@ impl<'a, R: Net + Clock, F: Read + Drop> MioSockets<'a, R, F> {
                 .retain_mut(|connection| connection.goes_on(second));
         }
         if second <= self.second {
-            return Ok(None);
+            return Ok(self.visit(server).unwrap_or(Ready::Nothing));
         }
         self.second = second;
         if let Some(ids) = &mut self.ids {
@@ -203,7 +195,7 @@ impl<'a, R: Net + Clock, F: Read + Drop> MioSockets<'a, R, F> {
         }
         self.door.is_knocked_at = true;
         connect(self.rt, self.poll.registry(), &mut self.drivers, server);
-        Ok(Some(second))
+        Ok(Ready::Tick(second))
     }
 
     /// Notes what the system reports.
@@ -246,15 +238,6 @@ impl<'a, R: Net + Clock, F: Read + Drop> MioSockets<'a, R, F> {
             self.failures = self.failures.saturating_add(1);
         }
         answer
-    }
-}
-
-fn turn_of(p: Peer, way: Way) -> Ready
-    ensures { result ≡ turn_of p way }
-{
-    match way {
-        Way::Read => Ready::Read(p),
-        Way::Write => Ready::Write(p),
     }
 }
 

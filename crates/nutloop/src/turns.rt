@@ -99,16 +99,16 @@ fn read_client<S: Sockets>(server: &mut Server, sockets: &mut S, c: ClientId)
     ensures { IsRow S.calls S.failures [] (Read (Client c))
         server.old.state sockets.old server.new.state sockets.new }
 {
-    let Ok(room) = server.room(c) else {
+    let Ok(standing) = server.standing(c) else {
         return;
     };
-    if room == 0 {
+    if standing.room == 0 {
         sockets.comes(Peer::Client(c), &[]);
         let _ = server.feed(c, &[]);
         return;
     }
     let mut bytes = [0; HELD_LIMIT];
-    let into = &mut bytes[..room];
+    let into = &mut bytes[..standing.room];
     match sockets.read(Peer::Client(c), into) {
         Ok(Got::Bytes(n)) => {
             let piece = &into[..n];

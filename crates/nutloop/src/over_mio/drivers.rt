@@ -1,7 +1,7 @@
 //! Drivers.
-ghost use Rattle.std.specs.Prelude.{◌≡◌, ◌<◌, ◌≤◌, length, IfSome};
+ghost use Rattle.std.specs.Prelude.{◌<◌, ◌≤◌, length, IfSome};
 ghost use Rattle.nutusers.specs.declared.limits.TheConstants.{UPS_LIMIT};
-ghost use Rattle.nutloop.specs.Pass.{FirstFrom, driver_at, driver_may};
+ghost use Rattle.nutloop.specs.Pass.{FirstFrom, driver_at};
 
 use super::pass::Way;
 use super::socket::{Socket, both_ways};
@@ -28,20 +28,6 @@ pub(super) struct Driver {
 }
 
 impl Driver {
-    /// Whether it may be read or written to. The first turn of a driver reports to the server that it is connected, and
-    /// counts as a read.
-    fn may(&self, u: UpsId, way: Way, server: &Server) -> bool
-        ensures { result ≡ driver_may server.now.state u way self.now }
-    {
-        let Some(socket) = &self.socket else {
-            return false;
-        };
-        match way {
-            Way::Read => socket.readable || !server.driver_connected(u).unwrap_or(false),
-            Way::Write => socket.writable && server.driver_offered(u).unwrap_or(0) != 0,
-        }
-    }
-
     /// Connects to the driver of this UPS, if it isn't connected and its socket has a path.
     pub fn connect<R: Net>(&mut self, rt: &R, registry: &Registry, u: UpsId, server: &Server)
         requires { u.place < UPS_LIMIT }
@@ -86,7 +72,8 @@ fn connected<R: Net>(
     Ok(Socket::new(stream))
 }
 
-/// The first driver from this place on that may be read or written to.
+/// The first driver from this place on that may be read or written to. The first turn of a driver reports to the server
+/// that it is connected, and counts as a read.
 pub(super) fn driver_from(
     drivers: &[Driver],
     from: usize,
@@ -98,8 +85,15 @@ pub(super) fn driver_from(
     ensures within { IfSome result (λ place. place < length drivers.now) }
 {
     for place in from..drivers.len() {
-        if drivers[place].may(UpsId { place: place as u8 }, way, server) {
-            return Some(place);
+        if let Some(socket) = &drivers[place].socket {
+            let u = UpsId { place: place as u8 };
+            let may = match way {
+                Way::Read => socket.readable || !server.driver_connected(u).unwrap_or(false),
+                Way::Write => socket.writable && server.driver_offered(u).unwrap_or(0) != 0,
+            };
+            if may {
+                return Some(place);
+            }
         }
     }
     None
