@@ -1,5 +1,5 @@
 //! One pass over all peers, in which each is visited once.
-ghost use Rattle.std.specs.Prelude.{◌≡◌, ◌<◌, ◌≤◌, ◌+◌, ◌-◌, ◌^◌, Some, None, if◌then◌else◌, length, min, true};
+ghost use Rattle.std.specs.Prelude.{◌≡◌, ◌≤◌, Some, None, if◌then◌else◌, length};
 ghost use Rattle.nutlisting.specs.declared.listing.clients.TheConstants.{SESSION_LIMIT};
 ghost use Rattle.nutloop.specs.Pass.{Visits, again, goes_on, may};
 ghost use Rattle.nutusers.specs.declared.limits.TheConstants.{UPS_LIMIT};
@@ -69,22 +69,6 @@ impl Pass {
         })
     }
 
-    /// There is a turn at this stop, of this number.
-    fn turn(&mut self, stop: Stop, number: usize) -> Option<Stop>
-        requires { number < STOPS }
-        ensures stop { result ≡ Some stop }
-        ensures turn { self.new ≡ record self.old {
-          next = number + 1;
-          had_turn = true;
-          turns = min (self.old.turns + 1) (2 ^ 32 - 1);
-        } }
-    {
-        self.next = number + 1;
-        self.had_turn = true;
-        self.turns = self.turns.saturating_add(1);
-        Some(stop)
-    }
-
     /// The next turn of this pass, if one is left.
     pub fn visit(
         &mut self,
@@ -98,24 +82,37 @@ impl Pass {
         ensures { Visits (may server.now.state is_knocked_at drivers.now clients.now)
             self.old result self.new }
     {
-        if self.next == 0 && is_knocked_at {
-            return self.turn(Stop::Listener, 0);
-        }
-        let from = self.next.saturating_sub(DRIVER_READS);
-        if let Some(place) = driver_from(drivers, from, Way::Read, server) {
+        let next = self.next;
+        let (stop, number) = if next == 0 && is_knocked_at {
+            (Stop::Listener, 0)
+        } else if let Some(place) = driver_from(
+            drivers,
+            next.saturating_sub(DRIVER_READS),
+            Way::Read,
+            server,
+        ) {
             self.was_driver_read = true;
-            return self.turn(Stop::Driver(place, Way::Read), DRIVER_READS + place);
-        }
-        let from = self.next.saturating_sub(DRIVER_WRITES);
-        if let Some(place) = driver_from(drivers, from, Way::Write, server) {
-            return self.turn(Stop::Driver(place, Way::Write), DRIVER_WRITES + place);
-        }
-        let from = self.next.saturating_sub(CLIENT_READS);
-        if let Some(place) = client_from(clients, from, Way::Read) {
-            return self.turn(Stop::Client(place, Way::Read), CLIENT_READS + place);
-        }
-        let from = self.next.saturating_sub(CLIENT_WRITES);
-        let place = client_from(clients, from, Way::Write)?;
-        self.turn(Stop::Client(place, Way::Write), CLIENT_WRITES + place)
+            (Stop::Driver(place, Way::Read), DRIVER_READS + place)
+        } else if let Some(place) = driver_from(
+            drivers,
+            next.saturating_sub(DRIVER_WRITES),
+            Way::Write,
+            server,
+        ) {
+            (Stop::Driver(place, Way::Write), DRIVER_WRITES + place)
+        } else if let Some(place) = client_from(
+            clients,
+            next.saturating_sub(CLIENT_READS),
+            Way::Read,
+        ) {
+            (Stop::Client(place, Way::Read), CLIENT_READS + place)
+        } else {
+            let place = client_from(clients, next.saturating_sub(CLIENT_WRITES), Way::Write)?;
+            (Stop::Client(place, Way::Write), CLIENT_WRITES + place)
+        };
+        self.next = number + 1;
+        self.had_turn = true;
+        self.turns = self.turns.saturating_add(1);
+        Some(stop)
     }
 }
