@@ -28,7 +28,7 @@ def build(crate, jobs):
 
 def build_all(crates):
     """Builds each crate once those below it are built, and returns those with which that went well."""
-    built, crates, done = {}, sorted(crates, key=lambda it: len(it.below())), 0
+    built, storey, done = {}, {}, 0
 
     def of(crate):
         nonlocal done
@@ -37,19 +37,19 @@ def build_all(crates):
         print(f"build: {crate.name}: {'proved' if is_built else 'FAILED'} ({done} of {len(crates)})", flush=True)
         return is_built
 
-    # What the last crate stands on is one long chain: all else gives way to it. A crate waits only for crates that
-    # were handed in before it, so some work always goes on.
-    chain = {crates[-1], *crates[-1].below()}
-    # A check by two jobs takes hardly more work than by one, by four twice as much: so much only where a crate of the
-    # chain is alone on its storey.
-    storey = {}
+    crates = sorted(crates, key=lambda it: len(it.below()))
     for it in crates:
         storey[it] = 1 + max((storey[dep] for dep in it.below()), default=0)
+    # What the last crate stands on is one long chain: all else gives way to it.
+    chain = {crates[-1], *crates[-1].below()}
     beside = collections.Counter(storey[it] for it in chain)
+    # A crate waits only for crates that were handed in before it, so some work always goes on. The longest goes first.
+    crates.sort(key=lambda it: (storey[it], -it.count(rb"\n")))
+    # A check by two jobs takes hardly more work than by one, by four twice as much: so much only where a crate of the
+    # chain is alone on its storey.
     jobs = {it: 4 if it in chain and beside[storey[it]] == 1 else 2 for it in crates}
-    pool, giving_way = (
-        concurrent.futures.ThreadPoolExecutor(rt.processors(), initializer=os.nice, initargs=[nice]) for nice in (0, 19)
-    )
+    pool = concurrent.futures.ThreadPoolExecutor(max(rt.processors() // 2, 1))
+    giving_way = concurrent.futures.ThreadPoolExecutor(rt.processors(), initializer=os.nice, initargs=[19])
     with pool, giving_way:
         for it in crates:
             built[it] = (pool if it in chain else giving_way).submit(of, it)

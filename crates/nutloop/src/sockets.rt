@@ -85,7 +85,7 @@ pub trait Sockets {
         ensures told { Logs (calls self.old) (calls self.new) Readied result }
         ensures count { IsCounted (failures self.old) (failures self.new) result };
 
-    /// What is ready now: what is known to be, or what a look tells.
+    /// What is ready now: what is known to be, or what a look finds.
     final fn ready(&mut self, server: &Server) -> Result<Ready, Broken>
         ensures told { Logs (calls self.old) (calls self.new) Readied result }
         ensures count { IsCounted (failures self.old) (failures self.new) result }

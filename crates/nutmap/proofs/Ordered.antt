@@ -18,10 +18,6 @@ pub all_keys_map : {K V : Type 0} (P Q : K → Type 0) → ((k : K) → P k → 
 all_keys_map P Q f [] a = tt
 all_keys_map P Q f (e ∷ es) a = (f e.0 a.0, all_keys_map P Q f es a.1)
 
-all_keys_append : {K V : Type 0} (P : K → Type 0) (l m : List (K × V)) → AllKeys P l → AllKeys P m → AllKeys P (l ++ m)
-all_keys_append P [] m a b = b
-all_keys_append P (e ∷ l) m a b = (a.0, all_keys_append P l m a.1 b)
-
 all_keys_left : {K V : Type 0} (P : K → Type 0) (l m : List (K × V)) → AllKeys P (l ++ m) → AllKeys P l
 all_keys_left P [] m a = tt
 all_keys_left P (e ∷ l) m a = (a.0, all_keys_left P l m a.1)
@@ -113,10 +109,6 @@ module _ {K V : Type 0} (R : K → K → Ordering) where
   keys_of-other_value : (l : List (K × V)) (k : K) (w v : V) (r : List (K × V)) → keys_of (l ++ (k, w) ∷ r) ≡ keys_of (l ++ (k, v) ∷ r)
   keys_of-other_value [] k w v r = refl
   keys_of-other_value (e ∷ l) k w v r = ap (λ (ks : List K). e.0 ∷ ks) (keys_of-other_value l k w v r)
-
-  -- the keys rise whatever the value of one
-  pub other_value_rises : (l : List (K × V)) (k : K) (w v : V) (r : List (K × V)) → Rises (l ++ (k, w) ∷ r) → Rises (l ++ (k, v) ∷ r)
-  other_value_rises l k w v r s = subst (λ (ks : List K). IsStrictlySortedBy R ks) (keys_of-other_value l k w v r) s
 
   pub rising_one : (e : K × V) → Rises (e ∷ [])
   unfolding IsStrictlySortedBy

@@ -44,7 +44,7 @@ impl<'a> Peers for ServerPeers<'a> {
     }
 }
 
-/// What answers a line that was read so, of the session that asks. The answer's line is made in the one that is lent.
+/// What answers a line that was read so, of the session that asks. The line of the answer is made in `lent`.
 /// Memory is asked for by a listing alone.
 pub(super) fn reply_to<'a>(
     view: &View<'_, ServerPeers<'_>>,
