@@ -2,7 +2,7 @@
 use crate::kept::Kept;
 use crate::row::Row;
 use crate::shown::push_fault;
-use nutdriver::{DriverFault, LineOutcome, laws};
+use nutdriver::{DriverFault, DriverLine, LineOutcome, laws};
 use nutwords::LINE_LIMIT;
 use std::alloc::AllocError;
 
@@ -26,7 +26,7 @@ fn done(kept: &mut Kept, line: &[u8]) -> Result<(), DriverFault> {
     if line.len() > LINE_LIMIT {
         return Err(DriverFault::Malformed);
     }
-    match kept.report.execute(0, line, &mut kept.meter)? {
+    match kept.report.execute(0, &DriverLine::read(line), &mut kept.meter)? {
         LineOutcome::Refused(fault) => Err(fault),
         _ => Ok(()),
     }

@@ -2,7 +2,7 @@
 use Rattle.std.proofs.Common.{◌≡◌, ◌∙◌, ℕ, zero, suc, ◌+◌, ◌-◌, ◌≤◌, Bool, true, false, List, [], ◌∷◌, ◌++◌, Option, Some, None, Result, refl, ap, sym, arith, length, take, zero-add, append-nil, append_assoc, slice_get}
 use Rattle.std.specs.Prelude.{if◌then◌else◌}
 use Rattle.std.specs.List.{filter_map, cons_option}
-use Rattle.std.specs.Option.{option_and_then}
+use Rattle.std.specs.Option.{option_and_then, option_map}
 use Rattle.std.proofs.lemmas.Bool.Decides.{nat_tests}
 use Rattle.std.proofs.lemmas.List.Elements.{filter_map-append}
 use Rattle.std.proofs.lemmas.Slice.Eq.{bytes_eq-Decides}
@@ -22,12 +22,13 @@ use Rattle.nutcore.specs.Calls.{done}
 use Rattle.nutcore.specs.Step.{with_input, without_output, may_take, refused_after}
 use Rattle.nutcore.specs.Pump.{next_line, next_line_for, after_line, after_lines, after_all_lines, pump_stops, held_of, holds_overlong}
 use Rattle.nutcore.specs.History.{Execution, next_execution, lines_executed, notice, pump_executions, executions_until}
-use Rattle.nutcore.specs.Notes.{note_of, notes_of_lines, notes_of_pump, note_of_notice, logout_of, refusal_note, status_note, data_note, notes_between, look_at, tick_note, tick_notes, IsNoted}
+use Rattle.nutcore.specs.Notes.{note_of, notes_of_lines, notes_of_pump, note_of_notice, logout_of, refusal_note, status_note, data_note, notes_between, look_at, look_of, tick_note, tick_notes, IsNoted}
 use Rattle.nutcore.specs.Cost.{RunningServer}
 use Rattle.nutcore.specs.declared.event.Outcome.{Outcome}
-use Rattle.nutcore.specs.Promises.{Replies, refused_overlong, note_in_reply, with_note, told_next, with_next, with_changes}
+use Rattle.nutcore.specs.Promises.{Replies, refused_overlong, note_in_reply, with_note, told_next, with_next, with_changes, OfUps}
 use Rattle.nutcore.proofs.Loops.{none_of, stopped_line, all_lines_are}
 use Rattle.nutcore.proofs.EventSteps.{input_absent}
+use Rattle.nutcore.proofs.DriverSteps.{IsThere}
 
 -- the lines that are executed, and those after them
 executed-add : (j k : ℕ) (s : ServerState) (c : ℕ) → lines_executed (j + k) s c ≡ lines_executed j s c ++ lines_executed k (after_lines j s c) c
@@ -177,3 +178,7 @@ ups_noted u s s' mid t was notes before same stood leaves none e =
     changes_noted u was (look_at u mid) notes before none e
     ∙ ap (λ (o : Option Look). take NOTE_LIMIT (notes_between u o (look_at u mid))) (stood ∙ ap (look_at u) same)
     ∙ ap (λ (z : ServerState). take NOTE_LIMIT (notes_between u (look_at u s) (look_at u z))) (sym leaves)
+
+-- how a UPS that is there looked
+pub looked : (u : UpsId) (s : ServerState) (b : Bool) (look : Look) → IsThere s u b → OfUps u s (λ x. look ≡ look_of s.max_age s.moment x) → Some look ≡ look_at u s
+looked u s b look there is = ap (λ (l : Look). Some l) (is there.ups there.there) ∙ sym (ap (λ (o : Option UpsState). option_map (look_of s.max_age s.moment) o) there.there)

@@ -7,7 +7,7 @@ use Rattle.std.specs.Option.{option_map, option_and_then}
 use Rattle.std.specs.Result.{result_ok}
 use Rattle.std.specs.Str.{bytes_eq}
 use Rattle.nutwords.specs.Reading.{read_name}
-use Rattle.nutdriver.specs.Tree.{variable_at}
+use Rattle.nutdriver.specs.LastLine.{value_of}
 use Rattle.nutusers.specs.declared.ups_list.UpsId.{UpsId}
 use Rattle.nutanswer.specs.declared.command.Command.{Command}
 use Rattle.nutanswer.specs.declared.command.Command.TheVariants.{Login, Primary, Fsd, SetVar}
@@ -123,7 +123,7 @@ data_state_of max_age moment x = data_state x.report.dumped (readiness moment ma
 
 -- The value of ups.status, if its driver has reported one.
 abbrev pub status_of : UpsState → Option (List ℕ)
-status_of x = option_map (λ v. v.value) (variable_at x.report.tree (codes "ups.status"))
+status_of x = value_of x.report.tree (codes "ups.status")
 
 -- What is compared of a UPS, by the greatest age and the moment: how many lines of its drivers were
 -- refused, and why the last one was; its status; and how its data stand.

@@ -110,6 +110,18 @@ pub(crate) struct Look {
     pub state: DataState,
 }
 
+impl Look {
+    /// A look at nothing yet.
+    pub(crate) fn new() -> Look {
+        Look {
+            refused: 0,
+            fault: None,
+            status: None,
+            state: DataState::Lost,
+        }
+    }
+}
+
 /// The notes of an event.
 pub(crate) type Notes = BoundedList<Note, NOTE_LIMIT>;
 

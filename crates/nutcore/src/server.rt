@@ -29,7 +29,7 @@ use self::status::note_stale;
 use crate::cost::Cost;
 use crate::event::{ClientId, Event, Fault, Outcome};
 use crate::max_age::MaxAge;
-use crate::note::{Note, Notes};
+use crate::note::{Look, Note, Notes};
 use crate::scratch::Scratch;
 use crate::session::Session;
 use crate::ups::Ups;
@@ -192,15 +192,16 @@ impl Server {
         ensures no_memory { (k : ℕ) → result ≢ Err (Fault.Memory k) }
     {
         self.forget();
-        let was = self.look(u);
         if self.ups_of(u)?.report.connected {
             return Err(Fault::AlreadyConnected);
         }
+        let mut was = Look::new();
+        self.look(u, &mut was);
         lawful_lines_keep_trees_sound();
         each_line_keeps_the_tree_sound();
         let moment = self.moment;
         self.with_ups(u, |ups| ups.connect(moment));
-        self.note_changes(u, was);
+        self.note_changes(u, &was);
         Ok(())
     }
 
@@ -219,10 +220,11 @@ impl Server {
             (done result) self.new }
     {
         self.forget();
-        let was = self.look(u);
         self.connected(u)?;
+        let mut was = Look::new();
+        self.look(u, &mut was);
         let result = self.feed_driver(u, piece);
-        self.note_changes(u, was);
+        self.note_changes(u, &was);
         result
     }
 
@@ -286,12 +288,13 @@ impl Server {
         ensures no_memory { (k : ℕ) → result ≢ Err (Fault.Memory k) }
     {
         self.forget();
-        let was = self.look(u);
         self.connected(u)?;
+        let mut was = Look::new();
+        self.look(u, &mut was);
         lawful_lines_keep_trees_sound();
         each_line_keeps_the_tree_sound();
         self.with_ups(u, |ups| ups.disconnect());
-        self.note_changes(u, was);
+        self.note_changes(u, &was);
         Ok(())
     }
 

@@ -1,16 +1,19 @@
 //! A UPS as the server keeps it: its driver's connection, and what the driver reported.
-ghost use Rattle.std.specs.Prelude.{◌≡◌, ◌≤◌, ℕ, IsTrue, List, Some, length, option_copied};
+ghost use Rattle.std.specs.Prelude.{◌≡◌, ◌≤◌, ℕ, IsTrue, List, Some, codes, length, option_copied};
 ghost use Rattle.nutwords.specs.Reading.{is_value};
 ghost use Rattle.nutcore.specs.Ups.{new_ups, after_connecting, after_loss, after_tick, with_fsd, free_room, with_order, with_faulty_line, UpsState};
 ghost use Rattle.nutcore.specs.Notes.{data_state_of, look_of, status_of};
-ghost use Rattle.nutcore.specs.Promises.{IsTaken, IsCut, DoesLine, IsFront, front_or};
+ghost use Rattle.nutcore.specs.Promises.{IsTaken, IsCut, DoesLine, IsFront, front_or, with_changes};
+ghost use Rattle.nutdriver.specs.LastLine.{value_of};
 
 use crate::DRIVER_OWED_LIMIT;
 use crate::event::Fault;
-use crate::note::{DataState, Look};
+use crate::note::{DataState, Look, Note, Notes, data_note};
 use arrayvec::ArrayVec;
-use nutdriver::{DriverFault, LineOutcome, Report};
+use nutdriver::laws::other_lines_leave_the_value;
+use nutdriver::{DriverFault, DriverLine, LineOutcome, Report, Tree};
 use nutmap::Meter;
+use nutusers::UpsId;
 use nutwords::{Found, LineCut, Name, Value};
 use std::alloc::{AllocError, Global};
 use std::marker::Model;
@@ -31,12 +34,20 @@ pub(crate) struct Ups {
     /// How many lines of its drivers were refused.
     pub(crate) faulty: u64,
     fault: Option<DriverFault>,
+    /// The value of its `ups.status`, which is looked up only where a line decides it.
+    status: Option<Value>,
 }
 
 impl Model for Ups {
+    ghost use Rattle.std.specs.Prelude.{◌≡◌, codes};
+    ghost use Rattle.nutcore.specs.Ups.{UpsState};
+    ghost use Rattle.nutdriver.specs.LastLine.{value_of};
+
     ghost Value = { UpsState };
 
     ghost view = { λ u. record { report = u.report; pinged = u.pinged; fsd = u.fsd; owed = u.owed.items; unfinished = u.cut; faulty = u.faulty; fault = u.fault } };
+
+    ghost invariant = { λ u. u.status ≡ value_of u.report.tree (codes "ups.status") };
 }
 
 impl Ups {
@@ -53,6 +64,7 @@ impl Ups {
             cut: LineCut::new(),
             faulty: 0,
             fault: None,
+            status: None,
         }
     }
 
@@ -73,24 +85,44 @@ impl Ups {
 
     /// The value of its `ups.status`, if its driver has reported one.
     pub(crate) fn status(&self) -> Option<&[u8]>
-        ensures value { option_copied result ≡ status_of self.now }
-        ensures lawful { (status : List ℕ) → option_copied result ≡ Some status
-            → IsTrue (is_value status) }
+        ensures { option_copied result ≡ status_of self.now }
     {
-        let name = Name::read(b"ups.status").ok()?;
-        Some(self.report.tree.get(&name)?.value())
+        Some(self.status.as_ref()?.as_bytes())
     }
 
-    /// What is compared of it, at the moment.
-    pub(crate) fn look(&self, max_age: u32, moment: u64) -> Look
-        ensures { result ≡ look_of max_age moment self.now }
+    /// Looks at what is compared of it, at the moment.
+    pub(crate) fn look(&self, max_age: u32, moment: u64, look: &mut Look)
+        ensures { look.new ≡ look_of max_age moment self.now }
     {
-        Look {
-            refused: self.faulty,
-            fault: self.fault,
-            status: self.status().and_then(|status| Value::read(status).ok()),
-            state: self.data_state(max_age, moment),
+        look.refused = self.faulty;
+        look.fault = self.fault;
+        look.state = self.data_state(max_age, moment);
+        match &self.status {
+            None => look.status = None,
+            Some(status) => copy_value(status, &mut look.status),
         }
+    }
+
+    /// Notes how it differs at the moment from this earlier look.
+    pub(crate) fn note_changes(
+        &self,
+        u: UpsId,
+        was: &Look,
+        max_age: u32,
+        moment: u64,
+        notes: &mut Notes,
+    )
+        ensures { notes.new ≡ with_changes u (Some was.now)
+            (Some (look_of max_age moment self.now)) notes.old }
+    {
+        if self.faulty != was.refused {
+            let count = self.faulty.saturating_sub(was.refused);
+            notes.extend(Some(Note::LinesRefused(u, count, self.fault)));
+        }
+        if self.status.is_some() && self.status != was.status {
+            notes.extend(Some(Note::StatusChanged(u)));
+        }
+        notes.extend(data_note(u, was.state, self.data_state(max_age, moment)));
     }
 
     /// A forced shutdown is set.
@@ -160,6 +192,7 @@ impl Ups {
         self.pinged = 0;
         self.owed.clear();
         self.cut = LineCut::new();
+        self.status = None;
     }
 
     /// Tells where the next line of its driver lies, in what it holds and a piece. Where none is whole, all of the piece is
@@ -187,8 +220,16 @@ impl Ups {
         ensures { DoesLine moment (front_or length piece.now self.old.unfinished)
             self.old result self.new }
     {
-        let line = front_or(piece, length, self.cut.held());
-        let outcome = self.report.execute(moment, line, &mut Meter::new())?;
+        // What the variables say of their names: they rise.
+        let _ = self.report.tree.variables().len();
+        other_lines_leave_the_value();
+        let line = DriverLine::read(front_or(piece, length, self.cut.held()));
+        let outcome = self.report.execute(moment, &line, &mut Meter::new())?;
+        if let Ok(line) = &line {
+            if line.decides(b"ups.status") {
+                keep_status(&self.report.tree, &mut self.status);
+            }
+        }
         self.cut.clear();
         Ok(outcome)
     }
@@ -200,6 +241,34 @@ impl Ups {
         self.fault = fault;
         self.faulty = self.faulty.saturating_add(1);
     }
+}
+
+// Both below stay a call of their own: what is inlined is cleared where a function begins, for each line too.
+
+/// Copies the value.
+#[inline(never)]
+fn copy_value(value: &Value, copy: &mut Option<Value>)
+    ensures { copy.new ≡ Some value.now }
+{
+    *copy = Some(value.copied());
+}
+
+/// Keeps the value of the tree's `ups.status`.
+#[inline(never)]
+fn keep_status(tree: &Tree, kept: &mut Option<Value>)
+    ensures { kept.new ≡ value_of tree.now (codes "ups.status") }
+{
+    *kept = status_in(tree).and_then(|status| Value::read(status).ok());
+}
+
+/// The value of the tree's `ups.status`, if it has one.
+fn status_in(tree: &Tree) -> Option<&[u8]>
+    ensures value { option_copied result ≡ value_of tree.now (codes "ups.status") }
+    ensures lawful { (status : List ℕ) → option_copied result ≡ Some status
+        → IsTrue (is_value status) }
+{
+    let name = Name::read(b"ups.status").ok()?;
+    Some(tree.get(&name)?.value())
 }
 
 /// So many bytes at the front of the piece, or else what is held.

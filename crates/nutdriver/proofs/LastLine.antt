@@ -27,7 +27,7 @@ use Rattle.nutdriver.specs.DriverLine.{read_driver_line}
 use Rattle.nutdriver.specs.DriverStep.{driver_step, is_change, put_back, on_variable, if_there, set_info, delete_info}
 use Rattle.nutdriver.specs.Report.{connected_report, after_step, after_reading, after_line, Heard, after_heard}
 use Rattle.nutdriver.specs.Sound.{IsSoundTree, EachLineKeepsTheTreeSound}
-use Rattle.nutdriver.specs.LastLine.{change_of, changes, value_of, decides, NoneDecides, TheLastLineOnAVariableDecidesIt}
+use Rattle.nutdriver.specs.LastLine.{change_of, changes, value_of, decides, NoneDecides, OtherLinesLeaveTheValue, TheLastLineOnAVariableDecidesIt}
 use Rattle.nutdriver.proofs.SoundTrees.{empty_sound}
 
 -- nutmap's laws of a change
@@ -171,6 +171,21 @@ module _ (laws : ChangeLaws) (tree : TreeState) (rise : HasRisingKeys byte_order
   line_gives DataStale = refl
   line_gives Pong = refl
   line_gives (Tracking id number) = refl
+
+  -- a line leaves the value of a name that it doesn't decide
+  others_left : (report : Report) (line : DriverLine) (name : List ℕ) → decides name line ≡ false → (step : Result (TreeState × Effect) DriverFault) → StepGives (λ name before. after_one name before line) tree step → report.tree ≡ tree
+      → value_of (after_step report step).0.tree name ≡ value_of report.tree name
+  others_left report line name h (Err fault) m e = refl
+  others_left report line name h (Ok (after, Changed)) m e = m name ∙ none_by name (value_of tree name) line h ∙ sym (ap (λ (t : TreeState). value_of t name) e)
+  others_left report line name h (Ok (after, Nothing)) m e = ap (λ (t : TreeState). value_of t name) (m ∙ sym e)
+  others_left report line name h (Ok (after, DumpIsDone)) m e = ap (λ (t : TreeState). value_of t name) (m ∙ sym e)
+  others_left report line name h (Ok (after, DataAreOk)) m e = ap (λ (t : TreeState). value_of t name) (m ∙ sym e)
+  others_left report line name h (Ok (after, DataAreStale)) m e = ap (λ (t : TreeState). value_of t name) (m ∙ sym e)
+  others_left report line name h (Ok (after, PongCame)) m e = ap (λ (t : TreeState). value_of t name) (m ∙ sym e)
+  others_left report line name h (Ok (after, Tracked id number)) m e = ap (λ (t : TreeState). value_of t name) (m ∙ sym e)
+
+pub other_lines_leave : ChangeLaws → OtherLinesLeaveTheValue
+other_lines_leave laws = λ report line name rise h. others_left laws report.tree rise report line name h (driver_step report.tree line) (line_gives laws report.tree rise line) refl
 
 -- lines one after another
 module _ (laws : ChangeLaws) (kept : EachLineKeepsTheTreeSound) where

@@ -25,11 +25,3 @@ lawful_told outcome r e lawful = grind arith
 
 pub numbers_lawful : ReadLinesAreLawful → ToldNumbersAreLawful
 numbers_lawful lawful moment report line = lawful_told _ (read_driver_line line) (reading_told (record report { heard = moment }) (read_driver_line line)) (lawful line)
-
--- a line that was read and done
-pub number_told : {E : Type 0} (report : Report) (text : List ℕ) (line : DriverLine) (result : Result LineOutcome E) (after : Report) → Ok line ≡ read_driver_line text
-    → IfOk result (λ outcome. after_reading report (Ok line) ≡ (after, outcome)) → IfOk result (λ outcome. HasLawfulNumber outcome)
-number_told report text line (Ok outcome) after is h =
-    let lawful : IfOk {E = DriverFault} (Ok line) IsLawfulLine = subst (λ (r : Result DriverLine DriverFault). IfOk r IsLawfulLine) (sym is) (read_lawful text) in
-    subst (λ (told : Report × LineOutcome). HasLawfulNumber told.1) h (lawful_told _ (Ok line) (reading_told report (Ok line)) lawful)
-number_told report text line (Err e) after is h = tt

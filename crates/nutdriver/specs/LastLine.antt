@@ -7,10 +7,11 @@ use Rattle.nutdriver.specs.declared.line.DriverLine.{DriverLine}
 use Rattle.nutdriver.specs.declared.line.DriverLine.TheVariants.{SetInfo, DelInfo}
 use Rattle.nutdriver.specs.declared.fault.DriverFault.{DriverFault}
 use Rattle.nutdriver.specs.declared.report.Report.{Report}
-use Rattle.nutdriver.specs.Tree.{TreeState, variable_at}
+use Rattle.nutmap.specs.Entries.{HasRisingKeys}
+use Rattle.nutdriver.specs.Tree.{TreeState, byte_order, variable_at}
 use Rattle.nutdriver.specs.DriverLine.{read_driver_line}
 use Rattle.nutdriver.specs.DriverStep.{changes_tree}
-use Rattle.nutdriver.specs.Report.{connected_report, after_line, Heard, after_heard}
+use Rattle.nutdriver.specs.Report.{connected_report, after_reading, after_line, Heard, after_heard}
 
 -- The line, where it is read and changes the tree.
 abbrev pub change_of : TreeState → Result DriverLine DriverFault → List DriverLine
@@ -33,6 +34,13 @@ abbrev pub decides : List ℕ → DriverLine → Bool
 decides name (SetInfo other value) = bytes_eq other name
 decides name (DelInfo other) = bytes_eq other name
 decides name _ = false
+
+-- A line that doesn't decide the variable of a name leaves its value.
+abbrev pub OtherLinesLeaveTheValue : Type 0
+OtherLinesLeaveTheValue =
+    (report : Report) (line : DriverLine) (name : List ℕ)
+    → HasRisingKeys byte_order report.tree.variables → decides name line ≡ false
+    → value_of (after_reading report (Ok line)).0.tree name ≡ value_of report.tree name
 
 -- None of the lines does.
 abbrev pub NoneDecides : List ℕ → List DriverLine → Type 0

@@ -1,11 +1,13 @@
 //! A value as a driver's line spells it, and as a variable keeps it.
 ghost use Rattle.std.specs.Prelude.{◌≡◌, IfOk, IsTrue};
+ghost use Rattle.std.specs.List.{list_all};
+ghost use Rattle.nutwords.specs.Bytes.{is_lawful};
 ghost use Rattle.nutwords.specs.Reading.{is_value, read_value};
 ghost use Rattle.nutwords.specs.Spelled.{spelled};
 ghost use Rattle.nutdriver.specs.Arguments.{lawful_value};
 
 use crate::DriverFault;
-use nutwords::{OfValue, SpelledWord, VALUE_LIMIT, Value};
+use nutwords::{OfValue, SpelledWord, TextKind, VALUE_LIMIT, Value};
 use smallvec::SmallVec;
 use std::alloc::{AllocError, Global};
 use std::marker::Model;
@@ -38,9 +40,14 @@ impl<'a> SpelledValue<'a> {
     pub(crate) fn of(word: SpelledWord<'a>) -> Result<SpelledValue<'a>, DriverFault>
         ensures { result ≡ lawful_value (read_value (spelled word.entry)) }
     {
-        match word.read::<OfValue, VALUE_LIMIT>() {
-            Ok(_) => Ok(SpelledValue { word }),
-            Err(_) => Err(DriverFault::TooLong),
+        let is_value = match word.as_plain() {
+            Some(bytes) => bytes.len() <= VALUE_LIMIT && are_lawful(bytes),
+            None => word.read::<OfValue, VALUE_LIMIT>().is_ok(),
+        };
+        if is_value {
+            Ok(SpelledValue { word })
+        } else {
+            Err(DriverFault::TooLong)
         }
     }
 
@@ -63,6 +70,13 @@ impl<'a> SpelledValue<'a> {
             }
         }
     }
+}
+
+/// Whether a value may have these bytes.
+fn are_lawful(bytes: &[u8]) -> bool
+    ensures { result ≡ list_all is_lawful bytes.now }
+{
+    bytes.iter().all(|b| OfValue::allows(*b))
 }
 
 /// A value in its own size: most are a few bytes, and a whole `Value` takes the place of the longest. Contracts see its

@@ -49,6 +49,7 @@ pub enum DriverLine<'a> {
 
 impl<'a> DriverLine<'a> {
     ghost use Rattle.nutwords.specs.Spelled.{spelled};
+    ghost use Rattle.nutdriver.specs.LastLine.{decides};
     ghost use Rattle.nutdriver.specs.DriverLine.{read_driver_line, value_line, limit_line, command_line, alone};
 
     /// Reads a line without its LF, of at most 2,047 bytes. Takes no memory.
@@ -66,6 +67,16 @@ impl<'a> DriverLine<'a> {
         match words.next() {
             Some(first) => DriverLine::of_value(&first, words),
             None => Ok(DriverLine::Blank),
+        }
+    }
+
+    /// Whether it gives the variable of this name its value, or takes it away.
+    pub fn decides(&self, name: &[u8]) -> bool
+        ensures { result ≡ decides name.now self.now }
+    {
+        match self {
+            DriverLine::SetInfo(other, _) | DriverLine::DelInfo(other) => other.as_bytes() == name,
+            _ => false,
         }
     }
 

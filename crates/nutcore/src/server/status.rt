@@ -1,16 +1,16 @@
 //! What the server reports beside the answers to clients.
-ghost use Rattle.std.specs.Prelude.{◌≡◌, ◌≤◌, length, option_copied, take, []};
+ghost use Rattle.std.specs.Prelude.{◌≡◌, ◌≤◌, Some, length, option_copied, take, []};
 ghost use Rattle.std.specs.Option.{option_and_then};
 ghost use Rattle.nutcore.specs.Calls.{Reads, ReadsUps, standing_of};
-ghost use Rattle.nutcore.specs.Notes.{look_at, status_of, tick_notes};
-ghost use Rattle.nutcore.specs.Promises.{with_changes};
+ghost use Rattle.nutcore.specs.Notes.{look_at, look_of, status_of, tick_notes};
+ghost use Rattle.nutcore.specs.Promises.{OfUps, with_changes};
 ghost use Rattle.nutcore.specs.Server.{session, ups_at};
 ghost use Rattle.nutcore.specs.declared.note.TheConstants.{NOTE_LIMIT};
 ghost use Rattle.nutusers.specs.declared.limits.TheConstants.{UPS_LIMIT};
 
 use super::Server;
 use crate::event::{ClientId, Fault};
-use crate::note::{Look, Note, Notes, data_note};
+use crate::note::{Look, Notes, data_note};
 use crate::ups::Ups;
 use nutusers::UpsId;
 
@@ -52,27 +52,25 @@ impl Server {
         self.ups_of(u).ok()?.status()
     }
 
-    /// How the UPS looks at this moment, if there is such a UPS.
-    pub(super) fn look(&self, u: UpsId) -> Option<Look>
-        ensures { result ≡ look_at u self.now.state }
+    /// Looks at the UPS, if it is there, at this moment.
+    pub(super) fn look(&self, u: UpsId, look: &mut Look)
+        ensures { OfUps u self.now.state (λ x. look.new
+            ≡ look_of self.now.state.max_age self.now.state.moment x) }
     {
-        Some(self.ups_of(u).ok()?.look(self.max_age, self.moment))
+        if let Some(ups) = self.upses.get(u.place as usize) {
+            ups.look(self.max_age, self.moment, look);
+        }
     }
 
     /// Notes how the UPS differs from this earlier look.
-    pub(super) fn note_changes(&mut self, u: UpsId, was: Option<Look>)
+    pub(super) fn note_changes(&mut self, u: UpsId, was: &Look)
         ensures notes { self.new.notes
-            ≡ with_changes u was (look_at u self.old.state) self.old.notes }
+            ≡ with_changes u (Some was.now) (look_at u self.old.state) self.old.notes }
         ensures state { self.new.state ≡ self.old.state }
         ensures cost { self.new.cost ≡ self.old.cost }
     {
-        if let (Some(was), Some(is)) = (was, self.look(u)) {
-            let notes = &mut self.notes;
-            let lines = Note::LinesRefused(u, is.refused.saturating_sub(was.refused), is.fault);
-            notes.extend((is.refused != was.refused).then_some(lines));
-            let is_other = is.status.is_some() && is.status != was.status;
-            notes.extend(is_other.then_some(Note::StatusChanged(u)));
-            notes.extend(data_note(u, was.state, is.state));
+        if let Some(ups) = self.upses.get(u.place as usize) {
+            ups.note_changes(u, was, self.max_age, self.moment, &mut self.notes);
         }
     }
 

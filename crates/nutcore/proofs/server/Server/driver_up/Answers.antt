@@ -1,4 +1,4 @@
-use Rattle.std.proofs.Common.{◌≡◌, true, false, sym, ◌∙◌, ap, subst, rules}
+use Rattle.std.proofs.Common.{Some, ◌≡◌, true, false, sym, ◌∙◌, ap, subst, rules}
 use Rattle.std.proofs.lemmas.Result.{err_from_is_err_and}
 use Rattle.nutcore.proofs.Common.{ServerState, with_ups_changed}
 use Rattle.nutcore.proofs.DriverSteps.{IsThere, there_within, up_absent, up_again, up_done}
@@ -7,7 +7,7 @@ use Rattle.nutcore.specs.Sound.{IsSoundUps}
 use Rattle.nutcore.proofs.SoundUps.{sound_connecting}
 use Rattle.nutcore.proofs.KeptSound.{of_call, changed_by}
 use Rattle.nutcore.proofs.Runs.{served_from, state_is}
-use Rattle.nutcore.proofs.Notes.{nothing_changed, ups_noted}
+use Rattle.nutcore.proofs.Notes.{looked, nothing_changed, ups_noted}
 use Rattle.nutcore.proofs.server.Server.driver_up.Goals as goal
 
 pub returns-in_err-ups_of-clause-served : goal.returns-in_err-ups_of-clause-served
@@ -48,4 +48,6 @@ pub returns-then-branch-clause-notes : goal.returns-then-branch-clause-notes
 returns-then-branch-clause-notes c = nothing_changed c.args.u c.args.self.now.state c.forget.new.self.state c.forget.new.self.notes c.forget.ensures.state c.forget.ensures.notes
 
 pub returns-clause-notes : goal.returns-clause-notes
-returns-clause-notes c = ups_noted c.args.u c.args.self.now.state c.forget.new.self.state c.with_ups.new.self.state c.note_changes.new.self.state c.look-was.result _ _ c.forget.ensures.state c.look-was.ensures c.note_changes.ensures.state (c.with_ups.ensures.notes ∙ c.forget.ensures.notes) c.note_changes.ensures.notes
+returns-clause-notes c =
+    let there : IsThere c.forget.new.self.state c.args.u false = record { ups = _; there = c.in_ok-ups_of.ensures.ups; is = ap (λ (z : UpsState). z.report.connected) (sym c.branch.view_is) ∙ c.if-branch.false } in
+    ups_noted c.args.u c.args.self.now.state c.forget.new.self.state c.with_ups.new.self.state c.note_changes.new.self.state (Some c.look.new.look) _ _ c.forget.ensures.state (looked c.args.u c.forget.new.self.state false c.look.new.look there c.look.ensures) c.note_changes.ensures.state (c.with_ups.ensures.notes ∙ c.forget.ensures.notes) c.note_changes.ensures.notes
