@@ -1,5 +1,5 @@
 -- A client that takes, among the events of others, gets everything: all that it is offered, or some bytes at a time.
-use Rattle.std.proofs.Common.{◌≡◌, ◌≢◌, ℕ, suc, ◌+◌, ◌≤◌, Bool, true, false, List, [], ◌∷◌, Option, Some, None, refl, sym, ◌∙◌, ap, subst, cond, eqb, inl, inr, arith, length, ◌*◌, ◌<◌}
+use Rattle.std.proofs.Common.{◌≡◌, ◌≢◌, ℕ, suc, ◌≤◌, Bool, true, false, List, [], ◌∷◌, Option, Some, None, refl, sym, ◌∙◌, ap, subst, cond, eqb, inl, inr, arith, length, ◌*◌}
 use Rattle.std.specs.List.{filter}
 use Rattle.std.specs.Option.{option_map_or}
 use Rattle.std.proofs.Math.Nat.{add-mul}
@@ -8,9 +8,9 @@ use Rattle.nutlisting.specs.declared.byte_queue.TheConstants.{QUEUE_LIMIT}
 use Rattle.nutcore.proofs.Common.{Event, Outcome, SessionState, ServerState, session, after, Run}
 use Rattle.nutcore.specs.declared.event.Event.TheVariants.{Feed, Took, Close}
 use Rattle.nutcore.specs.Session.{find, new_session}
-use Rattle.nutcore.specs.Pump.{pump_stops, held_of, owed_of}
+use Rattle.nutcore.specs.Pump.{held_of, owed_of}
 use Rattle.nutcore.specs.Step.{with_input, without_output, may_take, after_by, refused_after, outcome_of}
-use Rattle.nutcore.specs.History.{Execution, texts_of, executions_until, executions_by, executions, executions_in_event, of_client, owed, answers, held}
+use Rattle.nutcore.specs.History.{Execution, texts_of, executions_until, executions_by, executions, executions_in_event, of_client}
 use Rattle.nutcore.specs.Isolation.{client_of}
 use Rattle.nutcore.specs.Taking.{is_event_of, events_of, lines_done}
 use Rattle.nutcore.proofs.Events.{of_session_event}

@@ -1,6 +1,6 @@
 -- A client that takes all that it is offered gets everything.
 use Rattle.std.specs.Prelude.{◌≡◌, ◌≤◌, ◌+◌, ◌/◌, ◌==◌, ℕ, Bool, true, false, List, [], ◌∷◌}
-use Rattle.std.specs.Prelude.{Some, length}
+use Rattle.std.specs.Prelude.{length}
 use Rattle.std.specs.List.{filter}
 use Rattle.std.specs.Option.{option_map_or}
 use Rattle.nutlisting.specs.declared.byte_queue.TheConstants.{QUEUE_LIMIT}

@@ -35,9 +35,10 @@ pub enum Note {
 }
 
 /// How the data of a UPS stand.
-#[derive(Clone, Copy, Debug, PartialEq, Eq)]
+#[derive(Clone, Copy, Debug, Default, PartialEq, Eq)]
 pub enum DataState {
     /// No driver is connected.
+    #[default]
     Lost,
     /// A driver is connected, and hasn't reported everything yet.
     Awaited,
@@ -98,7 +99,7 @@ pub struct Deed {
 }
 
 /// What is compared of a UPS from before an event to after it.
-#[derive(Drop)]
+#[derive(Default, Drop)]
 pub(crate) struct Look {
     /// How many lines of its drivers were refused.
     pub refused: u64,
@@ -108,18 +109,6 @@ pub(crate) struct Look {
     pub status: Option<Value>,
     /// How its data stand.
     pub state: DataState,
-}
-
-impl Look {
-    /// A look at nothing yet.
-    pub(crate) fn new() -> Look {
-        Look {
-            refused: 0,
-            fault: None,
-            status: None,
-            state: DataState::Lost,
-        }
-    }
 }
 
 /// The notes of an event.

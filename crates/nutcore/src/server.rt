@@ -195,7 +195,7 @@ impl Server {
         if self.ups_of(u)?.report.connected {
             return Err(Fault::AlreadyConnected);
         }
-        let mut was = Look::new();
+        let mut was = Look::default();
         self.look(u, &mut was);
         lawful_lines_keep_trees_sound();
         each_line_keeps_the_tree_sound();
@@ -221,7 +221,7 @@ impl Server {
     {
         self.forget();
         self.connected(u)?;
-        let mut was = Look::new();
+        let mut was = Look::default();
         self.look(u, &mut was);
         let result = self.feed_driver(u, piece);
         self.note_changes(u, &was);
@@ -289,7 +289,7 @@ impl Server {
     {
         self.forget();
         self.connected(u)?;
-        let mut was = Look::new();
+        let mut was = Look::default();
         self.look(u, &mut was);
         lawful_lines_keep_trees_sound();
         each_line_keeps_the_tree_sound();

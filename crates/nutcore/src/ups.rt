@@ -1,6 +1,5 @@
 //! A UPS as the server keeps it: its driver's connection, and what the driver reported.
-ghost use Rattle.std.specs.Prelude.{◌≡◌, ◌≤◌, ℕ, IsTrue, List, Some, codes, length, option_copied};
-ghost use Rattle.nutwords.specs.Reading.{is_value};
+ghost use Rattle.std.specs.Prelude.{◌≡◌, ◌≤◌, Some, codes, length, option_copied};
 ghost use Rattle.nutcore.specs.Ups.{new_ups, after_connecting, after_loss, after_tick, with_fsd, free_room, with_order, with_faulty_line, UpsState};
 ghost use Rattle.nutcore.specs.Notes.{data_state_of, look_of, status_of};
 ghost use Rattle.nutcore.specs.Promises.{IsTaken, IsCut, DoesLine, IsFront, front_or, with_changes};
@@ -258,17 +257,10 @@ fn copy_value(value: &Value, copy: &mut Option<Value>)
 fn keep_status(tree: &Tree, kept: &mut Option<Value>)
     ensures { kept.new ≡ value_of tree.now (codes "ups.status") }
 {
-    *kept = status_in(tree).and_then(|status| Value::read(status).ok());
-}
-
-/// The value of the tree's `ups.status`, if it has one.
-fn status_in(tree: &Tree) -> Option<&[u8]>
-    ensures value { option_copied result ≡ value_of tree.now (codes "ups.status") }
-    ensures lawful { (status : List ℕ) → option_copied result ≡ Some status
-        → IsTrue (is_value status) }
-{
-    let name = Name::read(b"ups.status").ok()?;
-    Some(tree.get(&name)?.value())
+    let name = Name::read(b"ups.status").unwrap();
+    *kept = tree
+        .get(&name)
+        .and_then(|variable| Value::read(variable.value()).ok());
 }
 
 /// So many bytes at the front of the piece, or else what is held.

@@ -14,9 +14,9 @@ invariant_of-self-2 c =
     elim c.match-line.branch [
       | in-Ok+then-decides w ↦ search rules
       | in-Ok+else-decides w ↦
-        let rise = subst (HasRisingKeys byte_order) c.variables.ensures.value c.len.ensures.rising in
-        let left = c.other_lines_leave_the_value.ensures report w.in-Ok.line (codes "ups.status") rise (sym w.decides.ensures ∙ w.if-decides.false) in
-        rw w.self-inside-is (c.self.invariant ∙ sym left ∙ ap (λ (r : Report × LineOutcome). value_of r.0.tree (codes "ups.status")) (ap (after_reading report) (sym w.in-Ok.is) ∙ c.in_ok-outcome.ensures.ok))
+          let rise = subst (HasRisingKeys byte_order) c.variables.ensures.value c.len.ensures.rising in
+          let left = c.other_lines_leave_the_value.ensures report w.in-Ok.line (codes "ups.status") rise (sym w.decides.ensures ∙ w.if-decides.false) in
+          rw w.self-inside-is (c.self.invariant ∙ sym left ∙ ap (λ (r : Report × LineOutcome). value_of r.0.tree (codes "ups.status")) (ap (after_reading report) (sym w.in-Ok.is) ∙ c.in_ok-outcome.ensures.ok))
       | in_default w ↦
-        rw w.self-inside-is (c.self.invariant ∙ ap (λ (r : Report × LineOutcome). value_of r.0.tree (codes "ups.status")) (ap (after_reading report) (sym w.in_default.is) ∙ c.in_ok-outcome.ensures.ok))
+          rw w.self-inside-is (c.self.invariant ∙ ap (λ (r : Report × LineOutcome). value_of r.0.tree (codes "ups.status")) (ap (after_reading report) (sym w.in_default.is) ∙ c.in_ok-outcome.ensures.ok))
     ]
