@@ -1,5 +1,5 @@
 -- What a line says of an order, and that its number, as it is told, is one that an order may be done with.
-use Rattle.std.proofs.Common.{◌≡◌, ℕ, List, arith, refl, sym, subst}
+use Rattle.std.proofs.Common.{◌≡◌, arith, refl}
 use Rattle.std.specs.Prelude.{Result, Ok, Err, IfOk}
 use Rattle.nutdriver.specs.declared.fault.DriverFault.{DriverFault}
 use Rattle.nutdriver.specs.declared.line.DriverLine.{DriverLine}
@@ -9,7 +9,6 @@ use Rattle.nutdriver.specs.DriverLine.{read_driver_line}
 use Rattle.nutdriver.specs.DriverStep.{driver_step}
 use Rattle.nutdriver.specs.Report.{end_read, end_told, after_step, after_reading, HasLawfulNumber, ToldNumbersAreLawful}
 use Rattle.nutdriver.specs.Sound.{IsLawfulLine, ReadLinesAreLawful}
-use Rattle.nutdriver.proofs.LawfulLines.{read_lawful}
 
 -- what is told of an order is what the line says of it
 step_told : (at : Report) (line : DriverLine) → end_told (after_step at (driver_step at.tree line)).1 ≡ end_read (Ok line)

@@ -112,6 +112,3 @@ line_changes tree line = reading_changes tree (read_driver_line line)
 abbrev pub entries_before_reading : TreeState → Result DriverLine DriverFault → ℕ
 entries_before_reading tree (Ok line) = entries_before tree line
 entries_before_reading tree (Err fault) = 0
-
-abbrev pub entries_before_line : TreeState → List ℕ → ℕ
-entries_before_line tree line = entries_before_reading tree (read_driver_line line)
