@@ -26,7 +26,8 @@ fn done(kept: &mut Kept, line: &[u8]) -> Result<(), DriverFault> {
     if line.len() > LINE_LIMIT {
         return Err(DriverFault::Malformed);
     }
-    match kept.report.execute(0, &DriverLine::read(line), &mut kept.meter)? {
+    let line = DriverLine::read(line);
+    match kept.report.execute(0, &line, &mut kept.meter)? {
         LineOutcome::Refused(fault) => Err(fault),
         _ => Ok(()),
     }
