@@ -3,7 +3,6 @@
 usage: build.py NAME ..     at the top of the repository; each stands as crates/NAME/out/NAME then
 
 `rt run` in a program's folder does the same, one crate after another. Ends with status 1 where one isn't proved."""
-import collections
 import concurrent.futures
 import os
 import sys
@@ -28,7 +27,7 @@ def build(crate, jobs):
 
 def build_all(crates):
     """Builds each crate once those below it are built, and returns those with which that went well."""
-    built, storey, done = {}, {}, 0
+    built, done = {}, 0
 
     def of(crate):
         nonlocal done
@@ -37,18 +36,15 @@ def build_all(crates):
         print(f"build: {crate.name}: {'proved' if is_built else 'FAILED'} ({done} of {len(crates)})", flush=True)
         return is_built
 
-    crates = sorted(crates, key=lambda it: len(it.below()))
-    for it in crates:
-        storey[it] = 1 + max((storey[dep] for dep in it.below()), default=0)
-    # What the last crate stands on is one long chain: all else gives way to it.
-    chain = {crates[-1], *crates[-1].below()}
-    beside = collections.Counter(storey[it] for it in chain)
-    # A crate waits only for crates that were handed in before it, so some work always goes on. The longest goes first.
-    crates.sort(key=lambda it: (storey[it], -it.count(rb"\n")))
-    # A check by two jobs takes hardly more work than by one, by four twice as much: so much only where a crate of the
-    # chain is alone on its storey.
-    jobs = {it: 4 if it in chain and beside[storey[it]] == 1 else 2 for it in crates}
-    pool = concurrent.futures.ThreadPoolExecutor(max(rt.processors() // 2, 1))
+    lines = {it: it.count(rb"\n") for it in crates}
+    # A crate waits only for crates that were handed in before it, so some work always goes on.
+    crates = sorted(crates, key=lambda it: (len(it.below()), -lines[it]))
+    # What the longest crate stands on, and what stands on it, is one long chain: all else gives way to it.
+    longest = max(crates, key=lines.get)
+    chain = [it for it in crates if it in (longest, *longest.below()) or longest in it.below()]
+    # A check by two jobs takes hardly more work than by one, by four twice as much: so much only for a long crate of the chain.
+    jobs = {it: 4 if it in chain and lines[it] > 1000 else 2 for it in crates}
+    pool = concurrent.futures.ThreadPoolExecutor(rt.processors())
     giving_way = concurrent.futures.ThreadPoolExecutor(rt.processors(), initializer=os.nice, initargs=[19])
     with pool, giving_way:
         for it in crates:

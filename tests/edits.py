@@ -11,8 +11,6 @@ entry only where a goal of its own function stays open; that a callee isn't prov
 is checked against its callee's contract. A round counts only where it reached the prover and no function that nobody
 edited has an open goal; else it is halved. The last line says how many were refused."""
 import concurrent.futures as futures
-import contextlib
-import glob
 import os
 import re
 import shutil
@@ -119,15 +117,15 @@ def rounds_of(edits):
     return rounds
 
 
-def judge(crate, edits, kept):
-    """Judges a crate's edits over what that folder keeps, which then goes. Returns what is said of each edit that is refused,
-    and the names of those that aren't."""
+def judge(crate, edits):
+    """Judges a crate's edits. Returns what is said of each that is refused, and the names of those that aren't."""
     if not all(is_there(it) for it in crate.below()):
         return [], [f"{crate.name} (a library below it isn't built, or has changed since)"]
     judged = {}
-    for some in rounds_of(edits):
-        judged |= in_round(crate, [it for it in some if it.function and not it.why], kept)
-    shutil.rmtree(kept)
+    # What a round proves serves the next one.
+    with tempfile.TemporaryDirectory(prefix="edits-kept-") as kept:
+        for some in rounds_of(edits):
+            judged |= in_round(crate, [it for it in some if it.function and not it.why], kept)
     said = [f"{it.name}: refused: {why[:160]}" for it, why in judged.items()]
     return said, [it.name + f" ({it.why})" * bool(it.why) for it in edits if it not in judged]
 
@@ -137,36 +135,10 @@ def is_there(crate):
     return os.path.isdir(crate.rlib) and (crate.is_built() or not os.path.isfile(f"{os.path.dirname(crate.rlib)}/stamp"))
 
 
-def seeds_of(crate):
-    """Returns folders with what was proved of the whole crate by `rt ci`, while it tries must-fail/ over it, or by `rt check`."""
-    rooms = glob.glob(f"{tempfile.gettempdir()}/rt-edits-*")
-    seeds = [*rooms, *[f"{it}/seed" for it in rooms], f"{crate.folder}/out/incremental"]
-    return [it for it in seeds if glob.glob(f"{it}/*/Rattle-{crate.name}-proofs.oantt")]
-
-
 def is_ready(crate, said):
-    """Tells whether `rt ci`, which said this, has ended, or has built what is below a crate. If it tries several wrong
-    bodies of the crate it begins with a proof of the whole crate, which serves here too."""
-    if re.search(r"^\d+ passed, \d+ failed$", said, re.M):
-        return True
-    if len(rt.edits_of(crate)[0]) > 1:
-        return bool(seeds_of(crate))
-    return {it.name for it in crate.below()} <= set(re.findall(r"^rt: (\S+) (?:proved|is kept)", said, re.M))
-
-
-def keep(source, target):
-    """Links what is proved, which a check replaces and never changes, and copies all else."""
-    (os.link if source.endswith(".oantt") else shutil.copy2)(source, target)
-
-
-def begin(crate):
-    """Returns a new folder, with what was proved of the crate."""
-    kept = tempfile.mkdtemp(prefix="edits-kept-")
-    for seed in seeds_of(crate)[:1]:
-        # It may go meanwhile.
-        with contextlib.suppress(OSError, shutil.Error):
-            shutil.copytree(seed, kept, copy_function=keep, dirs_exist_ok=True)
-    return kept
+    """Tells whether `rt ci`, which said this, has ended, or has built what is below a crate."""
+    is_over = re.search(r"^\d+ passed, \d+ failed$", said, re.M)
+    return is_over or {it.name for it in crate.below()} <= set(re.findall(r"^rt: (\S+) (?:proved|is kept)", said, re.M))
 
 
 def main(words):
@@ -181,7 +153,7 @@ def main(words):
                 left.remove(crate)
                 edits = edits_of(crate)
                 print(f"edits: {crate.name}: {len(edits)} edits in {len(rounds_of(edits))} rounds", flush=True)
-                running.add(pool.submit(judge, crate, edits, begin(crate)))
+                running.add(pool.submit(judge, crate, edits))
             done, running = futures.wait(running, 1, futures.FIRST_COMPLETED)
             for said, stayed in (it.result() for it in done):
                 for line in said:

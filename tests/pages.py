@@ -77,7 +77,7 @@ def manual_faults():
 # What a page names.
 
 ROOTS = "crates tests docs tools man examples".split()
-IN_CRATES = "src specs proofs must-fail args stdout data".split()
+IN_CRATES = "src specs proofs args stdout data".split()
 # Of std, of the system and of the kit.
 NOT_OURS = set("""epoll_wait make_contiguous docs/ANSWERS.md
     --follow-tags --since --test --only --allow-holes --start""".split())
@@ -143,7 +143,6 @@ class Names:
         self.options = {it for text in texts.values() for it in OPTION.findall(text)}
         self.messages = messages_of(texts)
         self.defined = set(re.findall(r"\b(?:fn|const|struct|enum|trait|type|mod) (\w+)", rust))
-        self.defined |= {os.path.basename(it)[:-5] for it in texts if it.endswith(".edit")}
         for text in texts.values():
             self.defined |= {"".join(it) for it in re.findall(r"^ *def (\w+)|^(\w+)\(\) *\{|\bpub (\w+)", text, re.M)}
         modules = ["laws", *os.listdir("crates"), *re.findall(r"\bmod (\w+)", rust)]

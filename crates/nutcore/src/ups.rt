@@ -242,7 +242,7 @@ impl Ups {
     }
 }
 
-// Both below stay a call of their own: what is inlined is cleared where a function begins, for each line too.
+// Inlined, these two would have their room on the stack cleared at each line, also where neither is called.
 
 /// Copies the value.
 #[inline(never)]
