@@ -66,7 +66,7 @@ def check(crate, edits, kept):
 def open_goals(lines, crate):
     """Returns of each function that has open goals of its own what the check says of them."""
     found, note = {}, ""
-    for line in lines:
+    for line, next_line in zip(lines, [*lines[1:], ""]):
         # Notes on a function stand before its line.
         open_goal = re.match(r"note: src/\S+: (it is not proved that .*)", line)
         note = note or (open_goal[1] if open_goal else "")
@@ -76,9 +76,9 @@ def open_goals(lines, crate):
             if by_search or note and re.match("no proof|not proved", of[2]):
                 found.setdefault(of[1], by_search[1] if by_search else note)
             note = ""
-        # What names a thing that the edit took away says little of the contract.
+        # What names a thing that the edit took away says little of the contract. Two lines may say it.
         at = re.match(r"(?:\./)?proofs/(\S+)/(?:Answers|Invariants|Proof)\.antt:\d+:\d+: error: (.*)", line)
-        if at and not re.search(r"is not in scope|has no field|has no `|was not admitted|was rejected", at[2]):
+        if at and not re.search(r"is not in scope|has no field|has no `|was not admitted|was rejected", at[2] + next_line):
             found.setdefault("::".join([crate.name, *at[1].split("/")]), at[2])
     return found
 

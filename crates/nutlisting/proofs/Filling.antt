@@ -1,5 +1,5 @@
 -- One line, or the piece of it that fits, is placed.
-use Rattle.std.proofs.Common.{◌≡◌, ℕ, ◌+◌, ◌-◌, ◌<◌, ◌≤◌, false, List, [], ◌∷◌, ◌++◌, length, take, drop, refl, sym, ap, ◌∙◌, arith, append_assoc, length-append, length-take, length-drop, min}
+use Rattle.std.proofs.Common.{◌≡◌, ℕ, ◌+◌, ◌-◌, ◌<◌, ◌≤◌, false, List, [], ◌∷◌, ◌++◌, length, take, drop, sym, ap, ◌∙◌, arith, append_assoc, length-append, length-take, length-drop, min}
 use Rattle.std.specs.List.{concat}
 use Rattle.std.proofs.lemmas.List.{take-append-le, drop-append-le, append-nil, take_all, drop-drop}
 use Rattle.std.proofs.Math.Seq.{take-append-add, drop-append-add}
@@ -9,9 +9,6 @@ use Rattle.nutlisting.specs.Lines.{IsWholeLine}
 use Rattle.nutlisting.specs.declared.byte_queue.TheConstants.{QUEUE_LIMIT}
 use Rattle.nutlisting.proofs.LineFacts.{IsLine, is_line}
 use Rattle.nutlisting.proofs.Counting.{lines-append, lines-line, lines-piece, whole-line, count_more-add, no_lf-take, no_lf-drop}
-
-pub stays_alike : (r s : List ℕ) (m : ℕ) → PlacesAlike r s m r s m
-stays_alike r s m = record { placed = refl; stays = refl; counted = refl }
 
 pub joins_alike : (r s r' s' r'' s'' : List ℕ) (m m' m'' : ℕ) → PlacesAlike r s m r' s' m' → PlacesAlike r' s' m' r'' s'' m'' → PlacesAlike r s m r'' s'' m''
 joins_alike r s r' s' r'' s'' m m' m'' a b = record { placed = b.placed ∙ a.placed; stays = b.stays ∙ a.stays; counted = b.counted ∙ a.counted }

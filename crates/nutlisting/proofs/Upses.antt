@@ -30,10 +30,3 @@ ups_first upses place name desc line within n d l w =
     let ups : Ups = get_or upses place none in
     first_of ups_item (drop place upses) (drop (place + 1) upses) ups line (drop_more upses place none within)
     (l ∙ named_by (slice_get upses place) ups name desc (slice_get-get_or upses place none within) n d) w
-
--- each place of the list has a UPS
-pub ups_is_there : {P : Type 0} (upses : List Ups) (place : ℕ) → place < length upses → (name : Option (List ℕ)) → name ≡ None → name ≡ option_map (λ u. u.name) (slice_get upses place) → P
-ups_is_there upses place within name is n =
-    let none : Ups = record { name = []; desc = None; socket = None } in
-    let there : option_map (λ (u : Ups). u.name) (slice_get upses place) ≡ Some (get_or upses place none).name = ap (option_map (λ (u : Ups). u.name)) (slice_get-get_or upses place none within) in
-    absurd (cc)

@@ -1,6 +1,6 @@
 -- The first entries of a walk.
-use Rattle.std.proofs.Common.{◌≡◌, ℕ, zero, suc, ◌≤◌, false, List, [], ◌∷◌, ◌++◌, length, map, take, Some, Option, refl, sym, ap, ◌∙◌}
-use Rattle.std.proofs.lemmas.List.{take_all, append-nil, append_assoc, map-append}
+use Rattle.std.proofs.Common.{◌≡◌, ℕ, zero, suc, false, List, [], ◌∷◌, ◌++◌, map, take, Some, Option, refl, sym, ap, ◌∙◌}
+use Rattle.std.proofs.lemmas.List.{append_assoc, map-append}
 use Rattle.std.proofs.lemmas.List.Elements.{filter-append}
 use Rattle.std.specs.declared.cmp.Ordering.{Ordering}
 use Rattle.std.specs.declared.cmp.Ordering.TheVariants.{Less, Equal, Greater}
@@ -17,10 +17,6 @@ module _ {A : Type 0} where
   take_take zero xs ys = refl
   take_take (suc n) [] ys = refl
   take_take (suc n) (x ∷ xs) ys = ap (λ l. x ∷ l) (take_take n xs ys)
-
-  -- nothing joins where there is nothing
-  pub joins_none : (n : ℕ) (xs : List A) → length xs ≤ n → xs ≡ take n (xs ++ [])
-  joins_none n xs h = sym (ap (take n) (append-nil xs) ∙ take_all n xs h)
 
   -- what joins in three steps joins in one
   joins_three : (n : ℕ) (old a b c one two three : List A) → one ≡ take n (old ++ a) → two ≡ take n (one ++ b) → three ≡ take n (two ++ c) → three ≡ take n (old ++ (a ++ (b ++ c)))

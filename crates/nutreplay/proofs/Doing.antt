@@ -1,12 +1,10 @@
 -- The lines of a script, done one after another.
-use Rattle.std.proofs.Common.{drop, append-nil, append_assoc, ◌≡◌, ◌≤◌, ◌+◌, ◌∙◌, List, [], ◌∷◌, ◌++◌, Option, Some, None, refl, sym, ap, subst, arith, ℕ, length}
+use Rattle.std.proofs.Common.{drop, append-nil, append_assoc, ◌≡◌, ◌≤◌, ◌+◌, ◌∙◌, List, [], ◌∷◌, ◌++◌, Option, Some, None, refl, sym, ap, subst, ℕ, length}
 use Rattle.std.specs.Prelude.{slice_get}
-use Rattle.std.specs.List.{flat_map}
 use Rattle.std.specs.Option.{option_map}
 use Rattle.std.proofs.Math.ListN.{drop_of_length-le}
 use Rattle.std.proofs.lemmas.List.{drop_more}
 use Rattle.std.proofs.lemmas.Option.{slice_get_within, get_or_from_slice_get}
-use Rattle.std.proofs.lemmas.Grind.{common_steps}
 use Rattle.nutreplay.specs.declared.script.ScriptLine.{ScriptLine}
 use Rattle.nutusers.specs.UpsList.{Ups}
 use Rattle.nutreplay.specs.Transcript.{TranscriptState, IsDone, AreDone, driver_part, drivers_part}
@@ -16,10 +14,6 @@ use Rattle.nutreplay.specs.declared.transcript.sent.Taken.{Taken}
 pub AreDone-push : (lines : List ScriptLine) (line : ScriptLine) (old mid new : TranscriptState) → AreDone lines old mid → IsDone line.number line.action mid new → AreDone (lines ++ line ∷ []) old new
 AreDone-push [] line old mid new same done = (new, subst (λ (z : TranscriptState). IsDone line.number line.action z new) same done, refl)
 AreDone-push (first ∷ lines) line old mid new (next, once, rest) done = (next, once, AreDone-push lines line next mid new rest done)
-
--- one more part is written
-pub more_parts : {A : Type 0} (part : A → List ℕ) (peer : A) (so_far more : List A) (old mid new : List ℕ) → more ≡ so_far ++ peer ∷ [] → mid ≡ old ++ flat_map part so_far → new ≡ mid ++ part peer → new ≡ old ++ flat_map part more
-more_parts part peer so_far more old mid new m a b = grind (arith, common_steps, m, a, b)
 
 drop_at : (list : List Ups) (place : ℕ) (ups : Ups) → slice_get list place ≡ Some ups → drop place list ≡ ups ∷ drop (place + 1) list
 drop_at list place ups at = drop_more list place ups (slice_get_within list place ups at) ∙ ap (λ (u : Ups). u ∷ drop (place + 1) list) (get_or_from_slice_get list place ups ups at)

@@ -34,12 +34,6 @@ digit_at ds i h k = grind (arith, common_steps, list_all_at, h, k)
 pub up_to-missed : (most m n : ℕ) → m ≤ n → None ≡ up_to most m → None ≡ up_to most n
 up_to-missed most m n h e = grind (arith, nat_tests, common_steps, e, h)
 
-pub up_to-met : (most n v : ℕ) → v ≡ n → v ≤ most → Some v ≡ up_to most n
-up_to-met most n v e h = grind (arith, nat_tests, common_steps, e, h)
-
-pub up_to-fits : (most n v : ℕ) → Some v ≡ up_to most n → v ≤ most
-up_to-fits most n v e = grind (arith, nat_tests, common_steps, e)
-
 up_to-value : (most n v : ℕ) → Some v ≡ up_to most n → v ≡ n
 up_to-value most n v e = grind (arith, nat_tests, common_steps, e)
 
