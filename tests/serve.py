@@ -641,7 +641,7 @@ def nobody_waits_long_beside_busy_clients_and_drivers():
         driver.close()
     assert "stale" not in told, told
     # On a machine that is busy with other work the wait is that work's.
-    assert worst < (0.02 if is_calm else 0.5), f"the 64th client waited {worst:.3f} s"
+    assert worst < (0.1 if is_calm else 0.5), f"the 64th client waited {worst:.3f} s"
     assert all(other.exitcode == 0 for other in others)
 
 
