@@ -445,12 +445,20 @@ def sent_away(server):
     return sum(int(line.split()[-1]) for line in told)
 
 
+def stolen():
+    """How much of the processors the host of this machine has kept for others, in hundredths of a second."""
+    with open("/proc/stat", encoding="utf-8") as stat:
+        return int(stat.readline().split()[8])
+
+
 def worst_wait(client, count):
+    """The longest of so many waits, but for those in which the host kept a processor: they are the host's."""
     worst = 0.0
     for _ in range(count):
-        begin = time.monotonic()
+        before, begin = stolen(), time.monotonic()
         assert client.ask(GET) == STATUS
-        worst = max(worst, time.monotonic() - begin)
+        wait = time.monotonic() - begin
+        worst = max(worst, wait if stolen() == before else 0.0)
     return worst
 
 
@@ -641,7 +649,7 @@ def nobody_waits_long_beside_busy_clients_and_drivers():
         driver.close()
     assert "stale" not in told, told
     # On a machine that is busy with other work the wait is that work's.
-    assert worst < (0.1 if is_calm else 0.5), f"the 64th client waited {worst:.3f} s"
+    assert 0 < worst < (0.02 if is_calm else 0.5), f"the 64th client waited {worst:.3f} s"
     assert all(other.exitcode == 0 for other in others)
 
 
