@@ -10,6 +10,10 @@ import tempfile
 
 from kit import rt, rtlib
 
+# From so many lines on a crate of the chain is checked by four jobs, and all else by two: two take 1.2 times the work of
+# one, four take 1.5 times.
+LONG = 1000
+
 
 def build(crate, jobs):
     """Proves and builds a library, or a program, which then says its version, and tells whether that went well."""
@@ -42,8 +46,7 @@ def build_all(crates):
     # What the longest crate stands on, and what stands on it, is one long chain: all else gives way to it.
     longest = max(crates, key=lines.get)
     chain = [it for it in crates if it in (longest, *longest.below()) or longest in it.below()]
-    # A check by two jobs takes hardly more work than by one, by four twice as much: so much only for a long crate of the chain.
-    jobs = {it: 4 if it in chain and lines[it] > 1000 else 2 for it in crates}
+    jobs = {it: 4 if it in chain and lines[it] > LONG else 2 for it in crates}
     pool = concurrent.futures.ThreadPoolExecutor(rt.processors())
     giving_way = concurrent.futures.ThreadPoolExecutor(rt.processors(), initializer=os.nice, initargs=[19])
     with pool, giving_way:
