@@ -174,11 +174,15 @@ unfoldable pub whole_text : TranscriptState → List ℕ
 whole_text t =
     t.text ++ flat_map (client_part t.taken) t.clients ++ drivers_part t.taken 0 t.server.list
 
+-- The text once the lines are done, one after another.
+pub record IsTextAfter (lines : List ScriptLine) (begin : TranscriptState) (whole : List ℕ)
+    : Type 0 where
+  pub end : TranscriptState
+  pub done : AreDone lines begin end
+  pub text : whole ≡ whole_text end
+
 -- The output of a script over these UPSs, users and descriptions: what the actions of its lines, in
 -- order, do to a new server.
-pub record IsOutput (list : List Ups) (users : List User) (descriptions : Descriptions)
-    (max_age : ℕ) (script output : List ℕ) : Type 0 where
-  pub end : TranscriptState
-  pub done : AreDone (actions_of list script)
-      (new_transcript list users descriptions max_age) end
-  pub text : output ≡ whole_text end
+abbrev pub IsOutput : List Ups → List User → Descriptions → ℕ → List ℕ → List ℕ → Type 0
+IsOutput list users descriptions max_age script =
+    IsTextAfter (actions_of list script) (new_transcript list users descriptions max_age)

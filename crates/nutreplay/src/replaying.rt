@@ -108,6 +108,5 @@ fn transcript(
     let lines = read_script(alloc, &list, script)?;
     let max_age = MaxAge::read(REPLAY_MAX_AGE).unwrap();
     let mut transcript = Transcript::new(alloc, list, users, descriptions, max_age)?;
-    transcript.run(lines)?;
-    Ok(transcript.finish()?)
+    transcript.replay(lines).map_err(ReplayFault::from)
 }

@@ -5,7 +5,7 @@ ghost use Rattle.nutcore.specs.Server.{session, ups_at};
 ghost use Rattle.nutcore.specs.History.{taken_in_event};
 ghost use Rattle.nutcore.specs.DriverOrders.{taken_in_event as driver_taken_in_event};
 ghost use Rattle.nutreplay.specs.Script.{took};
-ghost use Rattle.nutreplay.specs.Transcript.{new_transcript, note_of_refusal, held_count, held_total, note_of, opened_by, taken_by, Happens, TakesAll, IsDone, AreDone, offered_to, count_offered, whole_text};
+ghost use Rattle.nutreplay.specs.Transcript.{new_transcript, note_of_refusal, held_count, held_total, note_of, opened_by, taken_by, Happens, TakesAll, IsDone, AreDone, IsTextAfter, offered_to, count_offered};
 
 mod sent;
 
@@ -17,7 +17,7 @@ use nutcore::{
 };
 use std::alloc::{AllocError, Global};
 use std::marker::Model;
-use std::slice;
+use std::{mem, slice};
 
 /// The server, and what is noted of the events so far.
 #[derive(Drop)]
@@ -57,8 +57,19 @@ impl Transcript {
         })
     }
 
+    /// Does what the lines ask for. The answer is the whole text.
+    #[tactic(auto, unfolding(crate::specs::Transcript::whole_text))]
+    pub fn replay(&mut self, lines: Vec<ScriptLine>) -> Result<Vec<u8>, AllocError>
+        ensures { IfOk result (λ text. IsTextAfter lines.items self.old text.items) }
+    {
+        self.run(lines)?;
+        write_clients(self.alloc, &self.clients, &self.taken, &mut self.text)?;
+        write_drivers(self.alloc, self.server.ups(), &self.taken, &mut self.text)?;
+        Ok(mem::replace(&mut self.text, Vec::new(self.alloc)))
+    }
+
     /// Does what the lines ask for, one after another.
-    pub fn run(&mut self, lines: Vec<ScriptLine>) -> Result<(), AllocError>
+    fn run(&mut self, lines: Vec<ScriptLine>) -> Result<(), AllocError>
         ensures { OnOk result (AreDone lines.items self.old self.new) }
     {
         for line in lines {
@@ -82,7 +93,7 @@ impl Transcript {
         ensures { OnOk result (Happens line event.now self.old self.new) }
     {
         self.keep_taken(event)?;
-        let outcome = self.step(event)?;
+        let outcome = step(&mut self.server, event)?;
         self.note(line, event, outcome)
     }
 
@@ -104,17 +115,6 @@ impl Transcript {
         };
         let bytes = Bytes::new(bytes);
         Ok(self.taken.push(Taken { peer, bytes })?)
-    }
-
-    /// The event happens to the server.
-    fn step(&mut self, event: &Event) -> Result<Outcome, AllocError>
-        ensures steps { IfOk result
-            (λ outcome. Step self.old.server event.now outcome self.new.server) }
-        ensures same { OnOk result (self.new
-            ≡ record self.old { server = self.new.server }) }
-    {
-        let outcomes = self.server.run(slice::from_ref(event))?;
-        Ok(outcomes[0])
     }
 
     /// Notes the event, and the client that it opened.
@@ -188,23 +188,14 @@ impl Transcript {
         self.event(line, &took(peer, n))?;
         Ok(count_offered(&self.server, peer))
     }
+}
 
-    /// The whole text.
-    #[tactic(auto, unfolding(crate::specs::Transcript::whole_text))]
-    pub fn finish(self) -> Result<Vec<u8>, AllocError>
-        ensures { IfOk result (λ text. text.items ≡ whole_text self) }
-    {
-        let Transcript {
-            alloc,
-            server,
-            mut text,
-            clients,
-            taken,
-        } = self;
-        write_clients(alloc, &clients, &taken, &mut text)?;
-        write_drivers(alloc, server.ups(), &taken, &mut text)?;
-        Ok(text)
-    }
+/// The event happens to the server.
+fn step(server: &mut Server, event: &Event) -> Result<Outcome, AllocError>
+    ensures { IfOk result (λ outcome. Step server.old.state event.now outcome server.new.state) }
+{
+    let outcomes = server.run(slice::from_ref(event))?;
+    Ok(outcomes[0])
 }
 
 /// How many bytes a client or a driver is offered: none where there is no such client or UPS.
