@@ -25,9 +25,9 @@ use Rattle.nutreplay.specs.declared.script.action.Action.TheVariants as asked
 use Rattle.nutreplay.specs.declared.script.ScriptLine.{ScriptLine}
 use Rattle.nutreplay.specs.declared.transcript.sent.Taken.{Taken}
 use Rattle.nutreplay.specs.Script.{took, actions_of}
-use Rattle.nutreplay.specs.Transcript.{TranscriptState, new_transcript, Happens, TakesAgain, all_taken, again, IsDone, AreDone, IsOutput, count_offered, sent_to, taken_by, opened_by}
+use Rattle.nutreplay.specs.Transcript.{TranscriptState, new_transcript, Happens, TakesAgain, all_taken, again, IsDone, AreDone, count_offered, sent_to, taken_by, opened_by}
 use Rattle.nutreplay.proofs.Taking.{when_true, when_false}
-use Rattle.nutreplay.specs.OneRun.{Happening, events_of, outcomes_of, once, takings, of_line, of_lines, RecordsRun}
+use Rattle.nutreplay.specs.OneRun.{Happening, events_of, outcomes_of, once, takings, of_line, of_lines, RecordsRun, AnOutputRecordsOneRun}
 
 -- runs, one after another
 run_joined : (s m t : ServerState) (hs is : List Happening) → Run s (events_of hs) (outcomes_of hs) m → Run m (events_of is) (outcomes_of is) t → Run s (events_of (hs ++ is)) (outcomes_of (hs ++ is)) t
@@ -174,11 +174,11 @@ lines_run (line ∷ lines) old new h =
 new_lawful : (list : List Ups) (users : List User) (descriptions : Descriptions) (max_age : ℕ) → IsLawful (new_server list users descriptions max_age)
 new_lawful list users descriptions max_age = λ c some. cc some
 
-pub output_records : WhatWasSentAndIsOwedIsTheAnswers → (list : List Ups) (users : List User) (descriptions : Descriptions) (max_age : ℕ) (script output : List ℕ) (is_output : IsOutput list users descriptions max_age script output) → RecordsRun (new_server list users descriptions max_age) (of_lines (actions_of list script) (new_transcript list users descriptions max_age) is_output.end is_output.done) is_output.end
+pub output_records : WhatWasSentAndIsOwedIsTheAnswers → AnOutputRecordsOneRun
 output_records law list users descriptions max_age script output is_output =
     let start : ServerState = new_server list users descriptions max_age in
-    let hs : List Happening = of_lines (actions_of list script) (new_transcript list users descriptions max_age) is_output.end is_output.done in
-    let whole : IsRun hs (new_transcript list users descriptions max_age) is_output.end = lines_run (actions_of list script) (new_transcript list users descriptions max_age) is_output.end is_output.done in
+    let hs : List Happening = of_lines (actions_of list script) (new_transcript start) is_output.end is_output.done in
+    let whole : IsRun hs (new_transcript start) is_output.end = lines_run (actions_of list script) (new_transcript start) is_output.end is_output.done in
     record {
       run = whole.run;
       clients = whole.clients;

@@ -71,11 +71,13 @@ pub record RecordsRun (start : ServerState) (hs : List Happening) (end : Transcr
       → sent_to (Client c) end.taken ++ owed c end.server
       ≡ answers c start (events_of hs) (outcomes_of hs)
 
--- The output of a script records the one run of all its events.
+-- The output of a script over a new server records the one run of all its events.
 abbrev pub AnOutputRecordsOneRun : Type 0
 AnOutputRecordsOneRun =
     (list : List Ups) (users : List User) (descriptions : Descriptions) (max_age : ℕ)
-    (script output : List ℕ) (is_output : IsOutput list users descriptions max_age script output)
+    (script output : List ℕ)
+    (is_output : IsOutput (new_server list users descriptions max_age) script output)
     → RecordsRun (new_server list users descriptions max_age)
     (of_lines (actions_of list script)
-    (new_transcript list users descriptions max_age) is_output.end is_output.done) is_output.end
+    (new_transcript (new_server list users descriptions max_age)) is_output.end is_output.done)
+    is_output.end

@@ -4,8 +4,6 @@ use Rattle.std.specs.Prelude.{None, ◌==◌, nat_lt, if◌then◌else◌, lengt
 use Rattle.std.specs.List.{flat_map}
 use Rattle.std.specs.Fmt.{decimal}
 use Rattle.nutusers.specs.UpsList.{Ups, id_at}
-use Rattle.nutusers.specs.Users.{User}
-use Rattle.nutusers.specs.Descriptions.{Descriptions}
 use Rattle.nutcore.specs.declared.event.Event.{Event}
 use Rattle.nutcore.specs.declared.event.Event.TheVariants.{DriverTook, Feed, Took}
 use Rattle.nutcore.specs.declared.event.Peer.{Peer}
@@ -14,7 +12,7 @@ use Rattle.nutcore.specs.declared.event.Outcome.{Outcome}
 use Rattle.nutcore.specs.declared.event.Outcome.TheVariants.{Done, Fed, Opened, Refused}
 use Rattle.nutcore.specs.declared.event.Fault.{Fault}
 use Rattle.nutcore.specs.Numbers.{number_of_fault}
-use Rattle.nutcore.specs.Server.{ServerState, session, ups_at, new_server}
+use Rattle.nutcore.specs.Server.{ServerState, session, ups_at}
 use Rattle.nutcore.specs.Ups.{UpsState}
 use Rattle.nutcore.specs.Step.{Step, offered}
 use Rattle.nutcore.specs.History.{taken_in_event}
@@ -35,14 +33,8 @@ pub record TranscriptState : Type 0 where
   pub taken : List Taken
 
 -- Before the first event.
-abbrev pub new_transcript : List Ups → List User → Descriptions → ℕ → TranscriptState
-new_transcript list users descriptions max_age =
-    record {
-      server = new_server list users descriptions max_age;
-      text = [];
-      clients = [];
-      taken = [];
-    }
+abbrev pub new_transcript : ServerState → TranscriptState
+new_transcript s = record { server = s; text = []; clients = []; taken = [] }
 
 -- What is noted of one event.
 
@@ -181,8 +173,6 @@ pub record IsTextAfter (lines : List ScriptLine) (begin : TranscriptState) (whol
   pub done : AreDone lines begin end
   pub text : whole ≡ whole_text end
 
--- The output of a script over these UPSs, users and descriptions: what the actions of its lines, in
--- order, do to a new server.
-abbrev pub IsOutput : List Ups → List User → Descriptions → ℕ → List ℕ → List ℕ → Type 0
-IsOutput list users descriptions max_age script =
-    IsTextAfter (actions_of list script) (new_transcript list users descriptions max_age)
+-- The output of a script over this server: what the actions of its lines, in order, do to it.
+abbrev pub IsOutput : ServerState → List ℕ → List ℕ → Type 0
+IsOutput s script = IsTextAfter (actions_of s.list script) (new_transcript s)

@@ -1,8 +1,6 @@
 //! Laws of every transcript. No program calls them.
-ghost use Rattle.std.specs.Prelude.{◌≡◌};
 ghost use Rattle.nutreplay.specs.OneRun.{AnOutputRecordsOneRun};
 ghost use Rattle.nutreplay.specs.Written.{WhatIsWrittenIsReadBack};
-ghost use Rattle.nutreplay.specs.declared.replaying.TheConstants.{REPLAY_MAX_AGE};
 
 use nutcore::laws::what_was_sent_and_is_owed_is_the_answers;
 
@@ -17,9 +15,4 @@ pub fn an_output_records_one_run()
 /// as that event.
 pub fn what_is_written_is_read_back()
     ensures { WhatIsWrittenIsReadBack }
-{}
-
-/// The MAXAGE of a replayed script, in seconds.
-pub fn numbers()
-    ensures max_age { REPLAY_MAX_AGE ≡ 15 }
 {}

@@ -1,4 +1,4 @@
-//! Scripts of events: how an event is written, what a line means, and the transcript of a replay over a server of its own.
+//! Scripts of events: how an event is written, what a line means, and the transcript of a replay over a server.
 #![tactic(auto)]
 
 pub mod laws;
@@ -6,5 +6,5 @@ mod replaying;
 mod script;
 mod transcript;
 
-pub use replaying::{REPLAY_MAX_AGE, ReplayFault, replay};
+pub use replaying::{ReplayFault, replay};
 pub use script::{add_line, add_line_of_bytes};

@@ -8,13 +8,10 @@ ghost use Rattle.nutreplay.specs.declared.replaying.ReplayFault.TheVariants.{Mem
 
 use crate::script::read_script;
 use crate::transcript::Transcript;
-use nutcore::{Descriptions, MaxAge, UpsList, Users};
+use nutcore::Server;
 use nutio::{Sink, send};
 use std::alloc::{AllocError, AllocFailed, Global};
 use thiserror::Error;
-
-/// After how many seconds without a line of its driver a UPS of a replayed script is stale.
-pub const REPLAY_MAX_AGE: u32 = 15;
 
 /// Why a script isn't replayed.
 #[derive(Clone, Copy, Debug, Error)]
@@ -59,7 +56,7 @@ impl From<AllocError> for ReplayFault {
     }
 }
 
-/// Replays a script over a new server, and writes the transcript. The whole script is read before
+/// Replays a script over the server, and writes the transcript. The whole script is read before
 /// its first event.
 ///
 /// # Errors
@@ -68,45 +65,37 @@ impl From<AllocError> for ReplayFault {
 /// nothing is written then. `Write`, where a write of this call failed: a beginning of the transcript is written.
 pub fn replay<W: Sink>(
     alloc: Global,
-    list: UpsList,
-    users: Users,
-    descriptions: Descriptions,
+    server: &mut Server,
     script: &[u8],
     out: &mut W,
 ) -> Result<(), ReplayFault>
     ensures output { OnOk result ((output : List ℕ)
-        × IsOutput list users descriptions REPLAY_MAX_AGE script.now output
+        × IsOutput server.old.state script.now output
         × Written W.contents W.failures out.old output out.new) }
-    ensures good { OnOk result (first_bad_line list script.now ≡ None) }
+    ensures good { OnOk result (first_bad_line server.old.state.list script.now ≡ None) }
     ensures bad { IfErr result (λ fault. (n : ℕ) → fault ≡ ReplayFault.BadEvent n
-        → first_bad_line list script.now ≡ Some n) }
+        → first_bad_line server.old.state.list script.now ≡ Some n) }
     ensures failed { IfErr result (λ fault. fault ≡ ReplayFault.Write
-        → first_bad_line list script.now ≡ None) }
+        → first_bad_line server.old.state.list script.now ≡ None) }
     ensures written { IfErr result (λ fault. fault ≡ ReplayFault.Write → (output : List ℕ)
-        × IsOutput list users descriptions REPLAY_MAX_AGE script.now output
+        × IsOutput server.old.state script.now output
         × WriteFailed W.contents W.failures out.old output out.new) }
     ensures unwritten { IfErr result (λ fault.
         (fault ≡ ReplayFault.Write) ⊎ (out.new ≡ out.old)) }
 {
-    let text = transcript(alloc, list, users, descriptions, script)?;
+    let text = transcript(alloc, server, script)?;
     send(out, &text).map_err(|_| ReplayFault::Write)
 }
 
 /// The transcript of a script.
-fn transcript(
-    alloc: Global,
-    list: UpsList,
-    users: Users,
-    descriptions: Descriptions,
-    script: &[u8],
-) -> Result<Vec<u8>, ReplayFault>
-    ensures ok { IfOk result (λ text. (first_bad_line list script.now ≡ None)
-        × IsOutput list users descriptions REPLAY_MAX_AGE script.now text.items) }
-    ensures err { IfErr result (λ fault. (fault ≡ ReplayFault.Memory)
-        ⊎ ((n : ℕ) × (fault ≡ ReplayFault.BadEvent n) × (first_bad_line list script.now ≡ Some n))) }
+fn transcript(alloc: Global, server: &mut Server, script: &[u8]) -> Result<Vec<u8>, ReplayFault>
+    ensures ok { IfOk result (λ text. (first_bad_line server.old.state.list script.now ≡ None)
+        × IsOutput server.old.state script.now text.items) }
+    ensures err { IfErr result (λ fault. (fault ≡ ReplayFault.Memory) ⊎ ((n : ℕ)
+        × (fault ≡ ReplayFault.BadEvent n)
+        × (first_bad_line server.old.state.list script.now ≡ Some n))) }
 {
-    let lines = read_script(alloc, &list, script)?;
-    let max_age = MaxAge::read(REPLAY_MAX_AGE).unwrap();
-    let mut transcript = Transcript::new(alloc, list, users, descriptions, max_age)?;
+    let lines = read_script(alloc, server.ups(), script)?;
+    let mut transcript = Transcript::new(alloc, server);
     transcript.replay(lines).map_err(ReplayFault::from)
 }

@@ -11,50 +11,41 @@ mod sent;
 
 use self::sent::{Taken, write_clients, write_drivers};
 use crate::script::{Action, ScriptLine, took};
-use nutcore::{
-    Bytes, ClientId, Descriptions, Event, Fault, MaxAge, Outcome, Peer, Server, UpsId, UpsList,
-    Users,
-};
+use nutcore::{Bytes, ClientId, Event, Fault, Outcome, Peer, Server, UpsId};
 use std::alloc::{AllocError, Global};
 use std::marker::Model;
 use std::{mem, slice};
 
 /// The server, and what is noted of the events so far.
 #[derive(Drop)]
-pub struct Transcript {
+pub struct Transcript<'a> {
     alloc: Global,
-    server: Server,
+    server: &'a mut Server,
     text: Vec<u8>,
     clients: Vec<ClientId>,
     taken: Vec<Taken>,
 }
 
-impl Model for Transcript {
+impl<'a> Model for Transcript<'a> {
     ghost use Rattle.nutreplay.specs.Transcript.{TranscriptState};
 
     ghost Value = { TranscriptState };
 
-    ghost view = { λ t. record { server = t.server.state; text = t.text.items; clients = t.clients.items; taken = t.taken.items } };
+    ghost view = { λ t. record { server = t.server.now.state; text = t.text.items; clients = t.clients.items; taken = t.taken.items } };
 }
 
-impl Transcript {
-    /// A new server over these UPSs, of which nothing is noted yet.
-    pub fn new(
-        alloc: Global,
-        list: UpsList,
-        users: Users,
-        descriptions: Descriptions,
-        max_age: MaxAge,
-    ) -> Result<Transcript, AllocError>
-        ensures { IfOk result (λ t. t ≡ new_transcript list users descriptions max_age) }
+impl<'a> Transcript<'a> {
+    /// Nothing is noted yet of what happens to the server.
+    pub fn new(alloc: Global, server: &'a mut Server) -> Self
+        ensures { result ≡ new_transcript server.old.state }
     {
-        Ok(Transcript {
+        Transcript {
             alloc,
-            server: Server::new(alloc, list, users, descriptions, max_age)?,
+            server,
             text: Vec::new(alloc),
             clients: Vec::new(alloc),
             taken: Vec::new(alloc),
-        })
+        }
     }
 
     /// Does what the lines ask for. The answer is the whole text.
@@ -93,7 +84,7 @@ impl Transcript {
         ensures { OnOk result (Happens line event.now self.old self.new) }
     {
         self.keep_taken(event)?;
-        let outcome = step(&mut self.server, event)?;
+        let outcome = step(self.server, event)?;
         self.note(line, event, outcome)
     }
 
@@ -104,11 +95,11 @@ impl Transcript {
     {
         let (peer, bytes) = match event {
             Event::Took(c, n) => {
-                let bytes = bytes_taken(self.alloc, &mut self.server, *c, *n)?;
+                let bytes = bytes_taken(self.alloc, self.server, *c, *n)?;
                 (Peer::Client(*c), bytes)
             }
             Event::DriverTook(u, n) => {
-                let bytes = driver_bytes_taken(self.alloc, &mut self.server, *u, *n)?;
+                let bytes = driver_bytes_taken(self.alloc, self.server, *u, *n)?;
                 (Peer::Driver(*u), bytes)
             }
             _ => return Ok(()),
@@ -171,7 +162,7 @@ impl Transcript {
     fn take_all(&mut self, line: usize, peer: Peer) -> Result<(), AllocError>
         ensures { OnOk result (TakesAll line peer self.old self.new) }
     {
-        let n = count_offered(&self.server, peer);
+        let n = count_offered(self.server, peer);
         let mut left = self.take(line, peer, n)?;
         while left > 0 {
             left = self.take(line, peer, left)?;
@@ -186,7 +177,7 @@ impl Transcript {
         ensures few { OnOk result (length self.new.taken < 2 ^ 64) }
     {
         self.event(line, &took(peer, n))?;
-        Ok(count_offered(&self.server, peer))
+        Ok(count_offered(self.server, peer))
     }
 }
 

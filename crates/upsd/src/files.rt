@@ -5,12 +5,12 @@ ghost use Rattle.nutusers.specs.UsersFile.{users_format, adds_to_users};
 ghost use Rattle.nutusers.specs.DescriptionFile.{descriptions_format, adds_text};
 ghost use Rattle.nutusers.specs.Descriptions.{no_descriptions};
 ghost use Rattle.upsd.specs.Files.{AreNamedIn};
-ghost use Rattle.upsd.specs.Configuration.{IsListOf, AreUsersOf, AreDescriptionsOf, AreMeant, FailsBy, FirstFails};
+ghost use Rattle.upsd.specs.Configuration.{IsListOf, AreUsersOf, AreDescriptionsOf, AreMeant, FailsBy, FirstFails, IsServerOf};
 
 use crate::ending::{Ending, ending_of_file};
 use crate::reading::{FileReader, read};
 use clap::ArgMatches;
-use nutcore::{Descriptions, UpsList, Users};
+use nutcore::{Descriptions, MaxAge, Server, UpsList, Users};
 use nutwords::UpsName;
 use std::alloc::Global;
 
@@ -47,12 +47,28 @@ pub struct Configuration {
     pub descriptions: Descriptions,
 }
 
-/// What these files mean. Each file is read and judged before the next one is opened.
+/// A server of what the files mean, with this greatest age.
 ///
 /// # Errors
 ///
 /// The first file that can't be read or is refused; `Memory`.
-pub fn configuration_in<'a, R: FileReader>(
+pub fn server_of<'a, R: FileReader>(
+    alloc: Global,
+    reader: &R,
+    files: Files<'a>,
+    max_age: MaxAge,
+) -> Result<Server, Ending<'a>>
+    ensures serves { IfOk result (IsServerOf (R.gives reader.now) files.entry max_age) }
+    ensures fails { IfErr result (λ ending.
+        FirstFails (R.gives reader.now) files.entry ending ⊎ (ending ≡ Ending.Memory)) }
+{
+    let read = configuration_in(alloc, reader, files)?;
+    let server = Server::new(alloc, read.list, read.users, read.descriptions, max_age);
+    server.map_err(|_| Ending::Memory)
+}
+
+/// What these files mean. Each file is read and judged before the next one is opened.
+fn configuration_in<'a, R: FileReader>(
     alloc: Global,
     reader: &R,
     files: Files<'a>,

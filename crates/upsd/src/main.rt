@@ -23,7 +23,6 @@ mod task;
 mod warnings;
 
 use crate::ending::{Ending, status_of, tell};
-use crate::files::Configuration;
 use crate::replaying::replay_files;
 use crate::serve::serve_files;
 use crate::task::{DEFAULT_ADDRESS, RECORD_MIB_MOST, Task, task_of};
@@ -31,7 +30,7 @@ use crate::warnings::warn;
 use clap::builder::ValueParser;
 use clap::{ArgMatches, Command, Error};
 use nutcommand::{Word, print_refusal, with_words, words, words_of};
-use nutcore::{MAX_AGE_LEAST, MAX_AGE_MOST};
+use nutcore::{MAX_AGE_LEAST, MAX_AGE_MOST, Server};
 use nutio::CountedWriter;
 use nutversion::VERSION;
 use std::alloc::{AllocError, Global};
@@ -144,8 +143,13 @@ fn run<'a>(rt: &HostRuntime, matches: &ArgMatches<'a>) -> Result<(), Ending<'a>>
         Some(Task::Serve(files, service)) => serve_files(rt, files, service),
         Some(Task::Replay(files, script)) => {
             let mut out = CountedWriter::new(io::writer(rt));
-            let judged = |c: &Configuration| warn(rt, files, &c.list, &c.users);
-            replay_files(rt.alloc(), rt, files, script, &mut out, judged)
+            // This script only has the files judged.
+            let judge = |server: &Server| {
+                if script == "/dev/null" {
+                    warn(rt, files, server.ups(), server.users());
+                }
+            };
+            replay_files(rt.alloc(), rt, files, script, &mut out, judge)
         }
         None => Err(Ending::BadArgument(found.get_str("listen"))),
     }

@@ -2,22 +2,24 @@
 ghost use Rattle.std.specs.Prelude.{◌≡◌, ◌⊎◌, MatchResult, OnOk, IfErr, Ok, Err};
 ghost use Rattle.nutreplay.specs.declared.replaying.ReplayFault.{ReplayFault};
 ghost use Rattle.upsd.specs.Ending.{ending_of_replay};
-ghost use Rattle.upsd.specs.Replaying.{IsReplay, Replays, FailsBefore};
+ghost use Rattle.upsd.specs.Reading.{CantBeRead};
+ghost use Rattle.upsd.specs.Replaying.{Replays, ReplaysOver, FailsBefore};
 
 use crate::ending::{Ending, ended};
-use crate::files::{Configuration, Files, configuration_in};
+use crate::files::{Files, server_of};
 use crate::reading::{FileReader, read};
+use nutcore::{MAX_AGE_DEFAULT, MaxAge, Server};
 use nutio::Sink;
 use nutreplay::replay;
 use std::alloc::Global;
 
-/// `upsd replay`: replays the script of the file over the UPSs, users and descriptions of theirs. The script
-/// /dev/null judges them: the caller is shown what they mean.
+/// `upsd replay`: replays the script of the file over the UPSs, users and descriptions of theirs. The caller is shown
+/// what they mean before the script is read.
 ///
 /// # Errors
 ///
 /// The first file that can't be read or is refused, the script last; `BadEvent`; `Memory`; `Write`.
-pub fn replay_files<'a, R: FileReader, W: Sink, J: FnOnce(&Configuration)>(
+pub fn replay_files<'a, R: FileReader, W: Sink, J: FnOnce(&Server)>(
     alloc: Global,
     reader: &R,
     files: Files<'a>,
@@ -34,31 +36,28 @@ pub fn replay_files<'a, R: FileReader, W: Sink, J: FnOnce(&Configuration)>(
         × Replays W.contents W.failures
         (R.gives reader.now) files.entry script.entry out.old (Err fault) out.new)) }
 {
-    let configuration = configuration_in(alloc, reader, files)?;
-    let bytes = read(reader, script)?;
-    if script == "/dev/null" {
-        judge(&configuration);
-    }
-    replay_over(alloc, configuration, script, &bytes, out)
+    let max_age = MaxAge::read(MAX_AGE_DEFAULT).unwrap();
+    let mut server = server_of(alloc, reader, files, max_age)?;
+    judge(&server);
+    replay_over(alloc, reader, &mut server, script, out)
 }
 
-/// Replays the script with these bytes.
-fn replay_over<'a, W: Sink>(
+/// Replays the script of the file over this server.
+fn replay_over<'a, R: FileReader, W: Sink>(
     alloc: Global,
-    configuration: Configuration,
+    reader: &R,
+    server: &mut Server,
     script: &'a str,
-    bytes: &[u8],
     out: &mut W,
 ) -> Result<(), Ending<'a>>
     ensures { MatchResult result
-        (λ _. IsReplay W.contents W.failures configuration bytes.now out.old (Ok tt) out.new)
-        (λ ending. (fault : ReplayFault) × (ending ≡ ending_of_replay script.entry fault)
-        × IsReplay W.contents W.failures configuration bytes.now out.old (Err fault) out.new) }
+        (λ _. ReplaysOver W.contents W.failures
+        (R.gives reader.now) server.old.state script.entry out.old (Ok tt) out.new)
+        (λ ending. (CantBeRead (R.gives reader.now) script.entry ending × (out.new ≡ out.old))
+        ⊎ ((fault : ReplayFault) × (ending ≡ ending_of_replay script.entry fault)
+        × ReplaysOver W.contents W.failures
+        (R.gives reader.now) server.old.state script.entry out.old (Err fault) out.new)) }
 {
-    let Configuration {
-        list,
-        users,
-        descriptions,
-    } = configuration;
-    ended(script, replay(alloc, list, users, descriptions, bytes, out))
+    let bytes = read(reader, script)?;
+    ended(script, replay(alloc, server, &bytes, out))
 }

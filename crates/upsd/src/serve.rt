@@ -4,19 +4,19 @@ ghost use Rattle.std.specs.IoError.{error_kind, raw_os_error};
 ghost use Rattle.nutloop.specs.declared.fault.LoopFault.{LoopFault};
 ghost use Rattle.nutloop.specs.Moved.{SomeTurns};
 ghost use Rattle.nutloop.specs.Serving.{IsOneRun, TurnsUpTo};
-ghost use Rattle.upsd.specs.Configuration.{FirstFails, IsServerOf};
+ghost use Rattle.upsd.specs.Configuration.{FirstFails};
 ghost use Rattle.upsd.specs.Ending.{IsEndOfServing, TellsAddress};
 ghost use Rattle.upsd.specs.Reading.{CantBeMade, CantBeOpened, anything};
 ghost use Rattle.upsd.specs.Recorded.{ServesRecorded};
 
 use crate::ending::Ending;
-use crate::files::{Files, configuration_in};
+use crate::files::{Files, server_of};
 use crate::journal::Journal;
-use crate::reading::{FileReader, create, open};
+use crate::reading::{create, open};
 use crate::recorded::{Recorded, Recorder, Served};
 use crate::task::Service;
 use crate::warnings::warn;
-use nutcore::{MaxAge, Server};
+use nutcore::Server;
 use nutio::{CountedWriter, Sink, send};
 use nutloop::{MioSockets, Sockets};
 use nutversion::VERSION;
@@ -57,22 +57,6 @@ fn ids_in<'a>(rt: &HostRuntime, path: Option<&'a str>) -> Result<Option<File>, E
         Some(path) => Ok(Some(open(rt, path)?)),
         None => Ok(None),
     }
-}
-
-/// A server of what the files mean, with this greatest age.
-fn server_of<'a, R: FileReader>(
-    alloc: Global,
-    reader: &R,
-    files: Files<'a>,
-    max_age: MaxAge,
-) -> Result<Server, Ending<'a>>
-    ensures serves { IfOk result (IsServerOf (R.gives reader.now) files.entry max_age) }
-    ensures fails { IfErr result (λ ending.
-        FirstFails (R.gives reader.now) files.entry ending ⊎ (ending ≡ Ending.Memory)) }
-{
-    let read = configuration_in(alloc, reader, files)?;
-    let server = Server::new(alloc, read.list, read.users, read.descriptions, max_age);
-    server.map_err(|_| Ending::Memory)
 }
 
 /// Opens the ids' file, listens at the address, and serves there. It owns only the sockets, and
