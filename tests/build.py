@@ -43,12 +43,12 @@ def build_all(crates):
     lines = {it: it.count(rb"\n") for it in crates}
     # A crate waits only for crates that were handed in before it, so some work always goes on.
     crates = sorted(crates, key=lambda it: (len(it.below()), -lines[it]))
-    # What the longest crate stands on, and what stands on it, is one long chain: all else gives way to it.
+    # What the longest crate stands on, and what stands on it, is one long chain: all else gives way to it, one at a time.
     longest = max(crates, key=lines.get)
     chain = [it for it in crates if it in (longest, *longest.below()) or longest in it.below()]
     jobs = {it: 4 if it in chain and lines[it] > LONG else 2 for it in crates}
     pool = concurrent.futures.ThreadPoolExecutor(rt.processors())
-    giving_way = concurrent.futures.ThreadPoolExecutor(rt.processors(), initializer=os.nice, initargs=[19])
+    giving_way = concurrent.futures.ThreadPoolExecutor(1, initializer=os.nice, initargs=[19])
     with pool, giving_way:
         for it in crates:
             built[it] = (pool if it in chain else giving_way).submit(of, it)
