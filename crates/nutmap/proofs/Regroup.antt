@@ -18,6 +18,9 @@ module _ {K V : Type 0} where
     pub right_rises : (l : List (K × V)) (e : K × V) (r : List (K × V)) → HasRisingKeys R (l ++ e ∷ r) → HasRisingKeys R r
     right_rises l e r s = record { rising = rising_tail R e r (rising_right R l (e ∷ r) s.rising) }
 
+    pub right_of_three_rises : (a : List (K × V)) (x : K × V) (ml : List (K × V)) (m : K × V) (mr : List (K × V)) → HasRisingKeys R ((a ++ x ∷ ml) ++ m ∷ mr) → HasRisingKeys R (ml ++ m ∷ mr)
+    right_of_three_rises a x ml m mr s = right_rises a x (ml ++ m ∷ mr) (subst (λ (l : List (K × V)). HasRisingKeys R l) (append_assoc a (x ∷ ml) (m ∷ mr)) s)
+
     pub rest_rises : (l m : List (K × V)) → HasRisingKeys R (l ++ m) → HasRisingKeys R (drop 1 l ++ m)
     rest_rises [] m s = s
     rest_rises (e ∷ l) m s = record { rising = rising_tail R e (l ++ m) s.rising }
@@ -28,3 +31,6 @@ module _ {K V : Type 0} where
 
       pub left_node_rises : HasRisingKeys R (a ++ x ∷ ml)
       left_node_rises = left_rises (a ++ x ∷ ml) (m ∷ (mr ++ y ∷ b)) root_rises
+
+      pub right_node_rises : HasRisingKeys R (mr ++ y ∷ b)
+      right_node_rises = right_rises (a ++ x ∷ ml) m (mr ++ y ∷ b) root_rises
