@@ -1,9 +1,11 @@
 //! The server: its UPSs, its sessions, and what each event does.
-ghost use Rattle.std.specs.Prelude.{◌≡◌, ◌≢◌, ◌≤◌, ◌<◌, ℕ, length, take, [], IfOk, OnErr, MatchResult, vec_len, is_some, Some, None, true, false};
+ghost use Rattle.std.specs.Prelude.{◌≡◌, ◌≢◌, ◌≤◌, ◌<◌, ℕ, length, replicate, take, [], IfOk, OnErr, MatchResult, vec_capacity, vec_len, is_some, Some, None, true, false};
 ghost use Rattle.std.specs.Option.{option_map};
 ghost use Rattle.std.specs.Io.BufRead.{Rests};
 ghost use Rattle.std.specs.Borrow.{sem};
+ghost use Rattle.nuttracking.specs.Tracking.{nothing_tracked};
 ghost use Rattle.nutcore.specs.Server.{session, ups_at, new_server};
+ghost use Rattle.nutcore.specs.Ups.{new_ups};
 ghost use Rattle.nutusers.specs.UpsList.{place_of, id_at};
 ghost use Rattle.nutcore.specs.Step.{Step, offered};
 ghost use Rattle.nutcore.specs.Run.{Run};
@@ -82,6 +84,39 @@ impl Model for Server {
     } };
 }
 
+/// What a new server asks memory for.
+#[derive(Drop)]
+struct Rooms {
+    upses: Vec<Ups>,
+    sessions: Vec<Session>,
+    tracking: Tracking,
+    clients: Clients,
+    notes: Notes,
+}
+
+impl Rooms {
+    /// So many UPSs without a driver, and room for all else.
+    fn new(alloc: Global, count: usize) -> Result<Self, AllocError>
+        ensures upses { IfOk result (λ r. r.upses.items ≡ replicate count new_ups) }
+        ensures sessions { IfOk result (λ r. r.sessions.items ≡ []) }
+        ensures room { IfOk result (λ r. SESSION_LIMIT ≤ vec_capacity r.sessions) }
+        ensures tracking { IfOk result (λ r. r.tracking ≡ nothing_tracked) }
+        ensures notes { IfOk result (λ r. r.notes ≡ []) }
+    {
+        let mut upses = Vec::with_capacity(alloc, count)?;
+        for _ in 0..count {
+            upses.push(Ups::new(alloc)).unwrap();
+        }
+        Ok(Rooms {
+            upses,
+            sessions: Vec::with_capacity(alloc, SESSION_LIMIT)?,
+            tracking: Tracking::new(alloc)?,
+            clients: Clients::new(alloc)?,
+            notes: Notes::new(alloc)?,
+        })
+    }
+}
+
 impl Server {
     /// A server over these UPSs: no driver is connected, no session is open, and the moment is 0.
     /// It makes the places of the UPSs, of 64 sessions, and of the ids and orders that are tracked.
@@ -98,14 +133,13 @@ impl Server {
         each_line_keeps_the_tree_sound();
         read_lines_are_lawful();
         descriptions.texts_are_lawful();
-        let mut upses = Vec::with_capacity(alloc, list.len())?;
-        for _ in 0..list.len() {
-            upses.push(Ups::new(alloc)).unwrap();
-        }
-        let sessions = Vec::with_capacity(alloc, SESSION_LIMIT)?;
-        let tracking = Tracking::new(alloc)?;
-        let clients = Clients::new(alloc)?;
-        let notes = Notes::new(alloc)?;
+        let Rooms {
+            upses,
+            sessions,
+            tracking,
+            clients,
+            notes,
+        } = Rooms::new(alloc, list.len())?;
         Ok(Server {
             alloc,
             moment: 0,
@@ -502,10 +536,11 @@ impl Server {
         }
     }
 
-    /// One event.
-    fn step(&mut self, event: &Event) -> Outcome
+    /// One event, by the call above that is its own.
+    pub fn step(&mut self, event: &Event) -> Outcome
         ensures step { Step self.old.state event.now result self.new.state }
         ensures cost { Costs self.old event.now self.new }
+        ensures notes { IsNoted self.old.state event.now result self.new }
     {
         match event {
             Event::DriverUp(u) => done(self.driver_up(*u)),

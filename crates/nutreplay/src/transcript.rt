@@ -1,6 +1,6 @@
 //! The server of a replayed script, and the transcript of its events: what is noted of each, and what was sent.
 ghost use Rattle.std.specs.Prelude.{◌≡◌, ◌++◌, ◌-◌, ◌<◌, ◌^◌, length, IfOk, OnOk};
-ghost use Rattle.nutcore.specs.Step.{Step, offered};
+ghost use Rattle.nutcore.specs.Step.{offered};
 ghost use Rattle.nutcore.specs.Server.{session, ups_at};
 ghost use Rattle.nutcore.specs.History.{taken_in_event};
 ghost use Rattle.nutcore.specs.DriverOrders.{taken_in_event as driver_taken_in_event};
@@ -14,7 +14,7 @@ use crate::script::{Action, ScriptLine, took};
 use nutcore::{Bytes, ClientId, Event, Fault, Outcome, Peer, Server, UpsId};
 use std::alloc::{AllocError, Global};
 use std::marker::Model;
-use std::{mem, slice};
+use std::mem;
 
 /// The server, and what is noted of the events so far.
 #[derive(Drop)]
@@ -84,7 +84,7 @@ impl<'a> Transcript<'a> {
         ensures { OnOk result (Happens line event.now self.old self.new) }
     {
         self.keep_taken(event)?;
-        let outcome = step(self.server, event)?;
+        let outcome = self.server.step(event);
         self.note(line, event, outcome)
     }
 
@@ -179,14 +179,6 @@ impl<'a> Transcript<'a> {
         self.event(line, &took(peer, n))?;
         Ok(count_offered(self.server, peer))
     }
-}
-
-/// The event happens to the server.
-fn step(server: &mut Server, event: &Event) -> Result<Outcome, AllocError>
-    ensures { IfOk result (λ outcome. Step server.old.state event.now outcome server.new.state) }
-{
-    let outcomes = server.run(slice::from_ref(event))?;
-    Ok(outcomes[0])
 }
 
 /// How many bytes a client or a driver is offered: none where there is no such client or UPS.
