@@ -72,6 +72,9 @@ impl<'a, R: Net + Clock, F: Read + Drop> MioSockets<'a, R, F> {
         server: &Server,
         ids: Option<F>,
     ) -> io::Result<Self> {
+        let start = Instant::now(rt)?;
+        let events = Events::with_capacity(alloc, EVENT_LIMIT)?;
+        let closing = Vec::with_capacity(alloc, CLOSING_LIMIT)?;
         let poll = Poll::new(rt)?;
         let door = Door::open(rt, alloc, poll.registry(), address)?;
         let mut drivers = ArrayVec::new();
@@ -82,14 +85,14 @@ impl<'a, R: Net + Clock, F: Read + Drop> MioSockets<'a, R, F> {
         Ok(MioSockets {
             rt,
             poll,
-            events: Events::with_capacity(alloc, EVENT_LIMIT)?,
-            start: Instant::now(rt)?,
+            events,
+            start,
             second: 0,
             ids: ids.map(Ids::new),
             door,
             drivers,
             clients: ArrayVec::new(),
-            closing: Vec::with_capacity(alloc, CLOSING_LIMIT)?,
+            closing,
             pass: Pass::default(),
             here: 0,
             failures: 0,
