@@ -1,7 +1,7 @@
 -- The descriptions of variables and commands.
 use Rattle.std.specs.Prelude.{ℕ, List, [], Option, All, IsTrue}
-use Rattle.std.specs.Map.{values_of}
-use Rattle.nutmap.specs.Entries.{value_at}
+use Rattle.std.specs.BTreeMap.{is_at}
+use Rattle.std.specs.Map.{lookup, values_of}
 use Rattle.nutwords.specs.NameOrder.{byte_order}
 use Rattle.nutusers.specs.Texts.{is_description}
 
@@ -11,7 +11,7 @@ Texts = List (List ℕ × List ℕ)
 
 -- The text of this name.
 abbrev pub text_at : Texts → List ℕ → Option (List ℕ)
-text_at texts name = value_at byte_order texts name
+text_at texts name = lookup (is_at (byte_order name)) texts
 
 -- The descriptions of variables and of commands.
 pub record Descriptions : Type 0 where
