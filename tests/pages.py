@@ -29,14 +29,14 @@ def text_of(path):
 
 # What a manual says of a program is what its sources say.
 
-JOURNAL = "crates/upsd/src/journal.rt"
+JOURNAL = "crates/nutjournal/src/journal.rt"
 # The texts of each source, and the form in which a manual has them.
 MESSAGES = [
     ("crates/upsd/src/ending.rt", r'#\[error\("(.*)"\)\]', r"\1"),
     ("crates/nutloop/src/fault.rt", r'#\[error\("(.*)"\)\]', r"\1"),
     ("crates/upsd/src/warnings.rt", r'warn_if\(.*, &"(.*)"\);', r"warning: PATH: \1"),
     ("crates/upsd/src/warnings.rt", r'(?:format_args!\("\[\{\}\]: |^ *tell\([a-z]+, ")([^"]*)"\)?[,;)].*$', r"warning: PATH: [NAME]: \1"),
-    *((path, r'"(.*)"\)?;\n.*, None, &line\);', r"\1") for path in ("crates/upsd/src/log_buffer.rt", JOURNAL)),
+    *((path, r'"(.*)"\)?;\n.*, None, &line\);', r"\1") for path in ("crates/nutjournal/src/log_buffer.rt", JOURNAL)),
     (JOURNAL, r'format_args!\("([a-z].*)"\)(?:\);|;\n.*, ups, &line\);)', r"su: \1"),
     (JOURNAL, r'DataState::.* &"(.*)"\),', r"su: \1"),
     (JOURNAL, r'format_args!\("(lines .*): \{count\}, the last one"\);', r"su: \1: N, the last one: REASON"),
@@ -58,7 +58,7 @@ def manual_faults():
     for program, sources in ("upsd", MESSAGES), ("upsc", FAULTS):  # upsrw(8) and upscmd(8) lead to upsc(8)
         told = set(re.findall(rf'^\.B "{program}: (?!server answered ERR|listening on)(.*)"$', text_of(f"man/{program}.8"), re.M))
         yield from (f"man/{program}.8 and the sources differ: {it}" for it in said_by(sources) ^ told)
-    words = set(re.findall(r'b"ERR ([A-Z-]+)\\n",$', text_of("crates/nutanswer/src/err_word.rt"), re.M))
+    words = set(re.findall(r'b"ERR ([A-Z-]+)\\n",$', text_of("crates/nutparse/src/err_word.rt"), re.M))
     reasons = re.findall(r'#\[error\("(.*)"\)\]$', text_of("crates/nutusers/src/fault.rt"), re.M)
     causes = {f"cause {number}: {it}" for number, it in enumerate(reasons, 1)}
     for page in glob("man/*"):

@@ -8,7 +8,7 @@ use Rattle.nutdriver.specs.Tree.{TreeState, variable_at}
 use Rattle.nutdriver.specs.LastLine.{TheLastLineDecides}
 use Rattle.nutlisting.specs.Shown.{shown}
 use Rattle.nutanswer.specs.View.{UpsSeen}
-use Rattle.nutanswer.specs.declared.command.Command.TheVariants as commands
+use Rattle.nutparse.specs.declared.command.Command.TheVariants as commands
 use Rattle.nutcore.specs.declared.event.Event.{Event}
 use Rattle.nutcore.specs.declared.event.Outcome.{Outcome}
 use Rattle.nutcore.specs.Server.{ServerState}

@@ -6,12 +6,12 @@ use Rattle.nuttracking.specs.Id.{id_text}
 use Rattle.nuttracking.specs.Tracking.{next_id}
 use Rattle.nutusers.specs.declared.rights.Right.TheVariants as rights
 use Rattle.nutusers.specs.declared.ups_list.UpsId.{UpsId}
-use Rattle.nutanswer.specs.declared.command.Command.{Command}
-use Rattle.nutanswer.specs.declared.command.Command.TheVariants as commands
-use Rattle.nutanswer.specs.declared.err_word.ErrWord.{ErrWord}
-use Rattle.nutanswer.specs.declared.err_word.ErrWord.TheVariants.{UnknownUps, SetFailed, InstcmdFailed}
+use Rattle.nutparse.specs.declared.command.Command.{Command}
+use Rattle.nutparse.specs.declared.command.Command.TheVariants as commands
+use Rattle.nutparse.specs.declared.err_word.ErrWord.{ErrWord}
+use Rattle.nutparse.specs.declared.err_word.ErrWord.TheVariants.{UnknownUps, SetFailed, InstcmdFailed}
 use Rattle.nutanswer.specs.declared.reply.Change.{Change}
-use Rattle.nutanswer.specs.Command.{read_command}
+use Rattle.nutparse.specs.Command.{read_command}
 use Rattle.nutanswer.specs.Checks.{◌>>=◌, ◌>>◌, KnownUps, ups_named, unknown_ups, user, live, var_not_supported, readonly, too_long, invalid_value, first_id, no_id, set_failed, cmd_not_supported, too_long_of_command, instcmd_failed}
 use Rattle.nutanswer.specs.Orders.{instcmd_right, set_line, instcmd_line, ok_words, order as order_to}
 use Rattle.nutanswer.specs.Answer.{Answer, one_line, answer_to, text_of_answer, change_of_answer, ok}

@@ -5,9 +5,9 @@ use Rattle.std.specs.List.{list_all}
 use Rattle.nutwords.specs.Bytes.{is_bare}
 use Rattle.nutwords.specs.Frame.{line_of}
 use Rattle.nutwords.specs.Listing.{as_it_is, IsWrittenLine}
-use Rattle.nutanswer.specs.ErrWord.{error_line, spelling_of}
-use Rattle.nutanswer.specs.declared.err_word.ErrWord.{ErrWord}
-use Rattle.nutanswer.specs.declared.err_word.ErrWord.TheVariants.{AccessDenied, UnknownUps, VarNotSupported, CmdNotSupported, InvalidArgument, InstcmdFailed, SetFailed, Readonly, TooLong, FeatureNotConfigured, DriverNotConnected, DataStale, AlreadyLoggedIn, AlreadySetPassword, AlreadySetUsername, UsernameRequired, PasswordRequired, UnknownCommand, InvalidValue}
+use Rattle.nutparse.specs.ErrWord.{error_line, spelling_of}
+use Rattle.nutparse.specs.declared.err_word.ErrWord.{ErrWord}
+use Rattle.nutparse.specs.declared.err_word.ErrWord.TheVariants.{AccessDenied, UnknownUps, VarNotSupported, CmdNotSupported, InvalidArgument, InstcmdFailed, SetFailed, Readonly, TooLong, FeatureNotConfigured, DriverNotConnected, DataStale, AlreadyLoggedIn, AlreadySetPassword, AlreadySetUsername, UsernameRequired, PasswordRequired, UnknownCommand, InvalidValue}
 use Rattle.nutrequest.specs.declared.request.Request.{Request}
 use Rattle.nutrequest.specs.declared.request.Request.TheVariants.{List as ListOf, GetVar, GetNumAttach, TrackedSetVar, TrackedInstcmd, GetTracking}
 use Rattle.nutrequest.specs.Reply.{Reply, Refused, Whole, reply, reply_from, first_of, first_or, expected_of, refusal_of, after_first, one_item}

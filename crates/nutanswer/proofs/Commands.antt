@@ -1,6 +1,6 @@
--- What is proved of each command, a case each: what its row says, what it tells is fresh, and that what is read for it is lawful.
-use Rattle.std.proofs.Common.{◌≡◌, ◌≤◌, ℕ, Bool, true, List, [], ◌∷◌, Option, Some, None, Result, Ok, Err, refl, ap, ◌&&◌, length, inl, inr, arith}
-use Rattle.std.specs.Prelude.{codes, IsTrue, ◌||◌}
+-- What is proved of each command, a case each: what its row says, and that what it tells is fresh.
+use Rattle.std.proofs.Common.{◌≡◌, ◌≤◌, ℕ, true, List, [], ◌∷◌, Option, Some, None, Result, Ok, Err, refl, ap, ◌&&◌, length, inl, inr, arith}
+use Rattle.std.specs.Prelude.{codes, IsTrue}
 use Rattle.std.proofs.lemmas.Bool.{leb-true}
 use Rattle.nutwords.specs.Frame.{line_of}
 use Rattle.nuttracking.specs.Tracking.{next_id}
@@ -8,25 +8,20 @@ use Rattle.nutdriver.specs.Variable.{VariableState}
 use Rattle.nutdriver.specs.Tree.{variable_at, has_command}
 use Rattle.nutlisting.specs.Items.{is_rw, ups_item, variable_item, command_item, enum_item, range_item, client_item}
 use Rattle.nutusers.specs.declared.rights.Right.TheVariants as rights
-use Rattle.nutanswer.specs.declared.command.Command.{Command}
-use Rattle.nutanswer.specs.declared.command.Command.TheVariants.{Username, Password, Login, Logout, Primary, Fsd, SetVar, InstCmd, GetVar, GetType, GetDesc, GetCmdDesc, GetUpsDesc, GetNumLogins, GetNumAttach, ListUps, ListVar, ListRw, ListCmd, ListEnum, ListRange, ListClient, Help, Ver, NetVer, ProtVer, StartTls, SetTracking, GetTracking, GetProgress}
-use Rattle.nutanswer.specs.declared.err_word.ErrWord.{ErrWord}
-use Rattle.nutanswer.specs.declared.err_word.ErrWord.TheVariants.{AlreadySetUsername, AlreadySetPassword, AlreadyLoggedIn, VarNotSupported, CmdNotSupported, Readonly, TooLong, InvalidValue, SetFailed, InstcmdFailed}
+use Rattle.nutparse.specs.declared.command.Command.{Command}
+use Rattle.nutparse.specs.declared.command.Command.TheVariants.{Username, Password, Login, Logout, Primary, Fsd, SetVar, InstCmd, GetVar, GetType, GetDesc, GetCmdDesc, GetUpsDesc, GetNumLogins, GetNumAttach, ListUps, ListVar, ListRw, ListCmd, ListEnum, ListRange, ListClient, Help, Ver, NetVer, ProtVer, StartTls, SetTracking, GetTracking, GetProgress}
+use Rattle.nutparse.specs.declared.err_word.ErrWord.{ErrWord}
+use Rattle.nutparse.specs.declared.err_word.ErrWord.TheVariants.{AlreadySetUsername, AlreadySetPassword, AlreadyLoggedIn, VarNotSupported, CmdNotSupported, Readonly, TooLong, InvalidValue, SetFailed, InstcmdFailed}
 use Rattle.nutanswer.specs.declared.reply.Change.{Change}
 use Rattle.nutanswer.specs.declared.reply.Change.TheVariants as changes
-use Rattle.nutanswer.specs.ErrWord.{error_line}
+use Rattle.nutparse.specs.ErrWord.{error_line}
 use Rattle.nutanswer.specs.View.{Seen, AskerSeen, usable, readiness}
 use Rattle.nutanswer.specs.Checks.{◌>>=◌, ◌>>◌, KnownUps, ups_named, user, var_not_lawful, cmd_not_lawful, already_set_username, already_set_password, already_logged_in, readonly, too_long_of_command, invalid_value, no_id, set_failed, instcmd_failed, unknown_id, cmd_not_supported}
 use Rattle.nutanswer.specs.Orders.{is_short_enough, is_listed, is_in_ranges, right_to, set_line, instcmd_line, order, ok_words, instcmd_right}
 use Rattle.nutanswer.specs.Answer.{Answer, one_line, ok, description_at, answer_to, change_of_answer, text_of_answer}
 use Rattle.nutanswer.specs.Rows.{HasRight, value_given, IsIdOfOrder, EachChangeComesOfItsCommand, EachOrderAnsweredOkIsGiven}
 use Rattle.nutanswer.specs.Laws.{OnlyOkChanges, RefusedLinesChangeNothing, EachAnswerIsALineOrAListing, WhatIsToldIsFresh}
-use Rattle.nutwords.specs.declared.faults.BadLine.{BadLine}
-use Rattle.nutwords.specs.Scan.{read_line}
-use Rattle.nuttracking.specs.Id.{read_id}
 use Rattle.nutwords.specs.Reading.{is_value, is_name, is_address}
-use Rattle.nutwords.specs.Keyword.{is_word}
-use Rattle.nutanswer.specs.Command.{user_name_alone, password_alone, ups_alone, ups_and_name, Names, ups_name_and_value_if_any, on_or_off, read_set, tracking_asked, read_instcmd, read_get, read_list, command_named, some_command, command_of, command_from, IsLawfulReading, WhatIsReadIsLawful}
 use Rattle.std.proofs.lemmas.List.Elements.{All-filter}
 use Rattle.nutdriver.specs.Sound.{IsSoundRange}
 use Rattle.nutusers.specs.Descriptions.{text_at}
@@ -35,7 +30,6 @@ use Rattle.nutlisting.specs.Shown.{shown, description_of, text_or_unavailable}
 use Rattle.nutanswer.proofs.CheckLemmas as checks
 use Rattle.nutanswer.proofs.CheckLemmas.{unless_ok, none_given, both_true, has_right}
 use Rattle.nutanswer.proofs.Fresh as fresh
-use Rattle.nutanswer.proofs.LawfulWords.{IsLawfulResult, none_lawful, one_lawful, with_lawful, alone_lawful, either_lawful, ups_lawful, set_var_lawful, instcmd_words, ups_words, two_words}
 use Rattle.nutanswer.proofs.Plain.{quoted_plain, type_plain, progress_plain}
 use Rattle.nutlisting.specs.Lawful.{IsSoundEntry}
 use Rattle.nutlisting.proofs.PublicLaws.{ids_are_lawful, texts_are_lawful}
@@ -262,78 +256,3 @@ told_fresh s asker (ListCmd ups) other answer h e = fresh.moved s ups other _ h 
 told_fresh s asker (ListEnum ups name) other answer h e = fresh.moved s ups other _ h (fresh.row s ups _) answer e
 told_fresh s asker (ListRange ups name) other answer h e = fresh.moved s ups other _ h (fresh.row s ups _) answer e
 told_fresh s asker command other answer h e = cc h
-
--- what is read for it is lawful
-tracking_lawful : (words : List (List ℕ)) → IsLawfulResult (tracking_asked words)
-tracking_lawful [] = one_lawful GetTracking tt
-tracking_lawful (id ∷ []) = one_lawful (GetProgress (read_id id)) tt
-tracking_lawful (id ∷ other ∷ words) = none_lawful _
-
-get_lawful : (words : List (List ℕ)) → IsLawfulResult (read_get words)
-get_lawful [] = none_lawful _
-get_lawful (kind ∷ words) =
-    either_lawful (is_word kind (codes "VAR")) (with_lawful (λ a. GetVar a.0 a.1) (ups_and_name words) (two_words words))
-    (either_lawful (is_word kind (codes "TYPE")) (with_lawful (λ a. GetType a.0 a.1) (ups_and_name words) (two_words words))
-    (either_lawful (is_word kind (codes "DESC")) (with_lawful (λ a. GetDesc a.0 a.1) (ups_and_name words) (two_words words))
-    (either_lawful (is_word kind (codes "CMDDESC")) (with_lawful (λ a. GetCmdDesc a.0 a.1) (ups_and_name words) (two_words words))
-    (either_lawful (is_word kind (codes "UPSDESC")) (with_lawful (λ ups. GetUpsDesc ups) (ups_alone words) (ups_words words))
-    (either_lawful (is_word kind (codes "NUMLOGINS")) (with_lawful (λ ups. GetNumLogins ups) (ups_alone words) (ups_words words))
-    (either_lawful (is_word kind (codes "NUMATTACH")) (with_lawful (λ ups. GetNumAttach ups) (ups_alone words) (ups_words words))
-    (either_lawful (is_word kind (codes "TRACKING")) (tracking_lawful words)
-    (none_lawful _))))))))
-
-list_lawful : (words : List (List ℕ)) → IsLawfulResult (read_list words)
-list_lawful [] = none_lawful _
-list_lawful (kind ∷ words) =
-    either_lawful (is_word kind (codes "UPS")) (alone_lawful ListUps words tt)
-    (either_lawful (is_word kind (codes "VAR")) (with_lawful (λ ups. ListVar ups) (ups_alone words) (ups_words words))
-    (either_lawful (is_word kind (codes "RW")) (with_lawful (λ ups. ListRw ups) (ups_alone words) (ups_words words))
-    (either_lawful (is_word kind (codes "CMD")) (with_lawful (λ ups. ListCmd ups) (ups_alone words) (ups_words words))
-    (either_lawful (is_word kind (codes "ENUM")) (with_lawful (λ a. ListEnum a.0 a.1) (ups_and_name words) (two_words words))
-    (either_lawful (is_word kind (codes "RANGE")) (with_lawful (λ a. ListRange a.0 a.1) (ups_and_name words) (two_words words))
-    (either_lawful (is_word kind (codes "CLIENT")) (with_lawful (λ ups. ListClient ups) (ups_alone words) (ups_words words))
-    (none_lawful _)))))))
-
-set_lawful : (words : List (List ℕ)) → IsLawfulResult (read_set words)
-set_lawful [] = none_lawful _
-set_lawful (kind ∷ words) =
-    either_lawful (is_word kind (codes "VAR")) (set_var_lawful (ups_name_and_value_if_any words) (instcmd_words words))
-    (either_lawful (is_word kind (codes "TRACKING")) (with_lawful (λ (on : Bool). SetTracking on) (on_or_off words) (λ on e. tt))
-    (none_lawful _))
-
-instcmd_lawful : (words : List (List ℕ)) → IsLawfulResult (read_instcmd words)
-instcmd_lawful words = with_lawful (λ (a : Names (Option (Option (List ℕ)))). InstCmd a.0 a.1 a.2) (ups_name_and_value_if_any words) (instcmd_words words)
-
-named_lawful : (first : List ℕ) (words : List (List ℕ)) → IsLawfulResult (command_named first words)
-named_lawful first words =
-    either_lawful (is_word first (codes "GET")) (get_lawful words)
-    (either_lawful (is_word first (codes "LIST")) (list_lawful words)
-    (either_lawful (is_word first (codes "SET")) (set_lawful words)
-    (either_lawful (is_word first (codes "USERNAME")) (with_lawful (λ (name : Option (List ℕ)). Username name) (user_name_alone words) (λ a e. tt))
-    (either_lawful (is_word first (codes "PASSWORD")) (with_lawful (λ (name : Option (List ℕ)). Password name) (password_alone words) (λ a e. tt))
-    (either_lawful (is_word first (codes "LOGIN") || is_word first (codes "ATTACH")) (ups_lawful (λ ups. Login ups) words (λ ups. tt))
-    (either_lawful (is_word first (codes "LOGOUT") || is_word first (codes "DETACH")) (alone_lawful Logout words tt)
-    (either_lawful (is_word first (codes "PRIMARY")) (ups_lawful (λ ups. Primary ups) words (λ ups. tt))
-    (either_lawful (is_word first (codes "FSD")) (ups_lawful (λ ups. Fsd ups) words (λ ups. tt))
-    (either_lawful (is_word first (codes "INSTCMD")) (instcmd_lawful words)
-    (either_lawful (is_word first (codes "HELP")) (alone_lawful Help words tt)
-    (either_lawful (is_word first (codes "VER")) (alone_lawful Ver words tt)
-    (either_lawful (is_word first (codes "NETVER")) (alone_lawful NetVer words tt)
-    (either_lawful (is_word first (codes "PROTVER")) (alone_lawful ProtVer words tt)
-    (either_lawful (is_word first (codes "STARTTLS")) (alone_lawful StartTls words tt)
-    (none_lawful _)))))))))))))))
-
-some_lawful : (r : Result Command ErrWord) → IsLawfulResult r → IsLawfulReading (some_command r)
-some_lawful (Err word) h = tt
-some_lawful (Ok command) h = h.lawful command refl
-
-command_of_lawful : (words : List (List ℕ)) → IsLawfulReading (command_of words)
-command_of_lawful [] = tt
-command_of_lawful (first ∷ words) = some_lawful (command_named first words) (named_lawful first words)
-
-from_lawful : (r : Result (List (List ℕ)) BadLine) → IsLawfulReading (command_from r)
-from_lawful (Err bad) = tt
-from_lawful (Ok words) = command_of_lawful words
-
-pub reading_is_lawful : WhatIsReadIsLawful
-reading_is_lawful line = from_lawful (read_line line)

@@ -4,10 +4,10 @@ use Rattle.std.proofs.lemmas.Bool.{leb-true}
 use Rattle.std.specs.Prelude.{codes}
 use Rattle.std.specs.List.{list_all, join_with_byte}
 use Rattle.nutwords.specs.Bytes.{is_lawful}
-use Rattle.nutanswer.specs.declared.err_word.ErrWord.{ErrWord}
+use Rattle.nutparse.specs.declared.err_word.ErrWord.{ErrWord}
 use Rattle.nutwords.specs.declared.limits.TheConstants.{LINE_LIMIT}
 use Rattle.nutlisting.specs.Lines.{IsAnswerLine}
-use Rattle.nutanswer.specs.ErrWord.{spelling_of}
+use Rattle.nutparse.specs.ErrWord.{spelling_of}
 use Rattle.nutanswer.specs.Laws.{ErrorLinesAreWhole}
 
 pub error_lawful : (word : ErrWord) → list_all is_lawful (join_with_byte 32 (codes "ERR" ∷ spelling_of word ∷ [])) ≡ true

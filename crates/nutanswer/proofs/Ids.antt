@@ -1,21 +1,11 @@
--- The ids of orders, as they are read and written.
-use Rattle.std.proofs.Common.{◌≡◌, ◌<◌, ℕ, List, ◌++◌, Option, Some, None, length, take, drop, refl, arith}
+-- The ids of orders, as they are written.
+use Rattle.std.proofs.Common.{◌≡◌, ℕ, List, ◌++◌, Some, length, take, drop, refl, arith}
 use Rattle.std.proofs.Math.Seq.{drop-append_seam, take-append_seam}
 use Rattle.std.specs.List.{join_with_byte}
 use Rattle.nutwords.specs.Frame.{line_of}
-use Rattle.nuttracking.specs.Id.{read_id}
-use Rattle.nuttracking.proofs.PublicLaws.{ids_are_plain}
 use Rattle.nutlisting.specs.Lines.{IsWholeLine}
 use Rattle.nutlisting.proofs.PublicLaws.{ids_are_lawful}
 use Rattle.nutanswer.specs.Orders.{ok_words}
-
-none_by : (text : List ℕ) (id : Option ℕ) → read_id text ≡ id → 36 < length text → None ≡ id
-none_by text None e h = refl
-none_by text (Some id) e h = absurd (omega (arith, h, ids_are_plain.read text id e))
-
--- a longer text is no id
-pub long_is_none : (text : List ℕ) → 36 < length text → None ≡ read_id text
-long_is_none text h = none_by text (read_id text) refl h
 
 -- two texts behind one another
 module _ (items front back : List ℕ) (n : ℕ) (long : n ≡ length front) (is : items ≡ front ++ back) where

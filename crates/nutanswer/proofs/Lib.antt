@@ -4,7 +4,6 @@ mod TableRows
 mod Fresh
 mod Named
 mod Commands
-mod LawfulWords
 mod ErrorLemmas
 mod Plain
 mod Shapes

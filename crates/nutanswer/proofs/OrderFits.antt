@@ -3,7 +3,7 @@ use Rattle.std.proofs.Common.{arith, ◌≡◌, ◌≤◌, ℕ, length, true, Li
 use Rattle.std.specs.Prelude.{slice_get}
 use Rattle.nutdriver.specs.declared.report.Report.{Report}
 use Rattle.nutusers.specs.declared.ups_list.UpsId.{UpsId}
-use Rattle.nutanswer.specs.declared.command.Command.{Command}
+use Rattle.nutparse.specs.declared.command.Command.{Command}
 use Rattle.nutanswer.specs.View.{Seen, AskerSeen, UpsSeen, usable, readiness}
 use Rattle.nutanswer.specs.Checks.{KnownUps, ups_named}
 use Rattle.nutanswer.specs.Rows.{IsSet, IsInstCmd, ComesOf}

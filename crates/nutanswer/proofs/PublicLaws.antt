@@ -1,6 +1,5 @@
 -- The laws of this crate that a proof in a crate above may cite: each is what a function of src/laws.rt ensures.
 use Rattle.nutanswer.specs.Laws.{ANamedUpsIsSeen, OrdersFit, ErrorLinesAreWhole, OrderLinesAreWhole, EachAnswerIsALineOrAListing, EachErrorIsALine}
-use Rattle.nutanswer.specs.Command.{WhatIsReadIsLawful}
 use Rattle.nutanswer.specs.Rows.{EachChangeComesOfItsCommand, EachOrderAnsweredOkIsGiven}
 use Rattle.nutanswer.proofs.Commands as commands
 use Rattle.nutanswer.proofs.Named as named
@@ -16,10 +15,6 @@ each_change_comes_of_its_command = commands.each_change
 -- each_order_answered_ok_is_given
 pub each_order_answered_ok_is_given : EachOrderAnsweredOkIsGiven
 each_order_answered_ok_is_given = commands.ok_orders
-
--- what_is_read_is_lawful
-pub what_is_read_is_lawful : WhatIsReadIsLawful
-what_is_read_is_lawful = commands.reading_is_lawful
 
 -- a_named_ups_is_seen
 pub a_named_ups_is_seen : ANamedUpsIsSeen

@@ -1,17 +1,17 @@
 -- A row of the table, by what its checks find together.
 use Rattle.std.proofs.Common.{arith, ◌≡◌, ℕ, List, Option, Some, Result, Ok, Err, refl, sym, ap, ◌∙◌, subst}
 use Rattle.nutdriver.specs.Variable.{VariableState}
-use Rattle.nutanswer.specs.declared.err_word.ErrWord.{ErrWord}
+use Rattle.nutparse.specs.declared.err_word.ErrWord.{ErrWord}
 use Rattle.nutusers.specs.declared.rights.Right.TheVariants.{Set}
 use Rattle.nutanswer.specs.View.{Seen, AskerSeen}
-use Rattle.nutanswer.specs.declared.command.Command.TheVariants.{SetVar, InstCmd}
+use Rattle.nutparse.specs.declared.command.Command.TheVariants.{SetVar, InstCmd}
 use Rattle.nutanswer.specs.Answer.{Answer, answer_to, one_line}
 use Rattle.nutanswer.specs.Checks.{◌>>=◌, ◌>>◌, KnownUps, user, unknown_ups, live, var_not_supported, cmd_not_supported, readonly, too_long, too_long_of_command, invalid_value, no_id, set_failed, instcmd_failed}
 use Rattle.nutanswer.specs.Orders.{set_line, instcmd_line, instcmd_right, order, ok_words}
 use Rattle.nutanswer.specs.Promises.{live_ups, live_variable, live_command, settable, Gives, GivesLine, GivesListing}
 use Rattle.nutlisting.specs.Items.{ListingState}
 use Rattle.nutanswer.specs.declared.reply.Reply.{Reply}
-use Rattle.nutanswer.specs.declared.err_word.ErrWord.TheVariants.{SetFailed, InstcmdFailed}
+use Rattle.nutparse.specs.declared.err_word.ErrWord.TheVariants.{SetFailed, InstcmdFailed}
 use Rattle.std.specs.Prelude.{◌≤◌, ◌<◌, length}
 use Rattle.std.proofs.lemmas.Bool.{le-leb, lt-leb}
 

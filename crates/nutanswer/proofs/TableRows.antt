@@ -6,15 +6,15 @@ use Rattle.nutwords.specs.Frame.{line_of}
 use Rattle.nutdriver.specs.Variable.{VariableState}
 use Rattle.nutlisting.specs.Items.{ListingState, text_of}
 use Rattle.nutusers.specs.declared.ups_list.UpsId.{UpsId}
-use Rattle.nutanswer.specs.declared.command.Command.{Command}
-use Rattle.nutanswer.specs.declared.err_word.ErrWord.{ErrWord}
+use Rattle.nutparse.specs.declared.command.Command.{Command}
+use Rattle.nutparse.specs.declared.err_word.ErrWord.{ErrWord}
 use Rattle.nutanswer.specs.declared.reply.Change.{Change}
 use Rattle.nutanswer.specs.declared.reply.Change.TheVariants.{Nothing}
 use Rattle.nutanswer.specs.View.{Seen, AskerSeen}
 use Rattle.nutanswer.specs.Checks.{◌>>=◌, ◌>>◌, KnownUps, ups_named, unknown_ups, live, var_not_supported}
 use Rattle.nutanswer.specs.Orders.{order, ok_words}
 use Rattle.nutanswer.specs.Answer.{Answer, one_line, listing, listing_of_clients, told, answer_to, change_of_answer, text_of_answer}
-use Rattle.nutanswer.specs.Command.{IsLawfulCommand}
+use Rattle.nutparse.specs.Command.{IsLawfulCommand}
 use Rattle.nutanswer.specs.Laws.{IsLawfulSeen, begins_with_ok, is_ok_line}
 use Rattle.nutanswer.specs.Rows.{IsSet, IsInstCmd, ComesOf}
 use Rattle.nutanswer.proofs.CheckLemmas as checks

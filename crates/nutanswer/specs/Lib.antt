@@ -1,5 +1,3 @@
-pub mod ErrWord
-pub mod Command
 pub mod View
 pub mod Orders
 pub mod Checks

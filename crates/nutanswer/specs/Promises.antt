@@ -3,9 +3,9 @@
 use denote.Ref.{Bor}
 use Rattle.std.specs.Prelude.{◌≡◌, ℕ, false, List, Option, None, Result, Ok, Err, IsTrue}
 use Rattle.nutdriver.specs.Variable.{VariableState}
-use Rattle.nutanswer.specs.declared.err_word.ErrWord.{ErrWord}
+use Rattle.nutparse.specs.declared.err_word.ErrWord.{ErrWord}
 use Rattle.nutanswer.specs.declared.checks.Known.{Known}
-use Rattle.nutanswer.specs.declared.command.Command.{Command}
+use Rattle.nutparse.specs.declared.command.Command.{Command}
 use Rattle.nutanswer.specs.declared.reply.Change.TheVariants.{Nothing}
 use Rattle.nutanswer.specs.declared.reply.Reply.{Reply}
 use Rattle.nutanswer.specs.declared.reply.Reply.TheVariants.{One, Many, Clients}
@@ -92,13 +92,6 @@ abbrev pub GivesListing
 GivesListing answer (Ok (Ok l)) = answer ≡ Ok (listing l)
 GivesListing answer (Ok (Err memory)) = IsTrue (shares_version answer)
 GivesListing answer (Err word) = answer ≡ Err word
-
--- The command that is made of these arguments, or their refusal.
-abbrev pub IsCommandWith
-    : {X : Type 0} → (X → Command → Type 0) → Result X ErrWord → Result Command ErrWord → Type 0
-IsCommandWith makes (Err word) result = result ≡ Err word
-IsCommandWith makes (Ok arguments) result =
-    (command : Command) × (result ≡ Ok command) × makes arguments command
 
 -- A session that has given nothing.
 abbrev pub nobody : AskerSeen

@@ -6,9 +6,9 @@ ghost use Rattle.nutanswer.specs.Checks.{unknown_ups, user, too_long_of_command,
 ghost use Rattle.nutanswer.specs.Orders.{instcmd_right, is_short_enough, is_listed, is_in_ranges, is_within_one};
 ghost use Rattle.nutanswer.specs.Promises.{known_ups, known_variable, known_command, found, live_ups, live_variable, live_command, settable};
 
-use crate::err_word::Checked;
-use crate::{Asker, ErrWord, Peers, UpsView, UpsWord, ValueWord, View};
+use crate::{Asker, Peers, UpsView, View};
 use nutdriver::{Range, Variable, read_number};
+use nutparse::{Checked, ErrWord, UpsWord, ValueWord};
 use nutusers::{Right, UpsId};
 use nutwords::{Name, UpsName, Value};
 

@@ -1,6 +1,5 @@
 //! Laws of the table of answers.
 ghost use Rattle.nutanswer.specs.Laws.{RefusedLinesChangeNothing, OnlyOkChanges, ANamedUpsIsSeen, OrdersFit, ErrorLinesAreWhole, OrderLinesAreWhole, EachAnswerIsALineOrAListing, EachErrorIsALine, WhatIsToldIsFresh};
-ghost use Rattle.nutanswer.specs.Command.{WhatIsReadIsLawful};
 ghost use Rattle.nutanswer.specs.Rows.{EachChangeComesOfItsCommand, EachOrderAnsweredOkIsGiven};
 
 /// Each change is made by its own command, after all its checks passed.
@@ -14,12 +13,6 @@ pub fn each_change_comes_of_its_command()
 #[tactic(auto, using(crate::proofs::Commands::ok_orders))]
 pub fn each_order_answered_ok_is_given()
     ensures { EachOrderAnsweredOkIsGiven }
-{}
-
-/// The names and values that are read from a client's line are lawful.
-#[tactic(auto, using(crate::proofs::Commands::reading_is_lawful))]
-pub fn what_is_read_is_lawful()
-    ensures { WhatIsReadIsLawful }
 {}
 
 /// Data are answered, and orders accepted, only if the driver is connected, has reported all, says

@@ -14,9 +14,9 @@ use Rattle.nutwords.specs.Text.{with_lf}
 use Rattle.nutwords.specs.declared.faults.BadLine.{BadLine}
 use Rattle.nutwords.proofs.PublicLaws.{first_line_and_the_rest_are_all, read_line_is_the_grammar}
 use Rattle.nutwords.proofs.Sizes.{Reads-sum}
-use Rattle.nutanswer.specs.Command.{command_named, command_from, some_command, read_command}
-use Rattle.nutanswer.specs.declared.command.Command.{Command}
-use Rattle.nutanswer.specs.declared.err_word.ErrWord.{ErrWord}
+use Rattle.nutparse.specs.Command.{command_named, command_from, some_command, read_command}
+use Rattle.nutparse.specs.declared.command.Command.{Command}
+use Rattle.nutparse.specs.declared.err_word.ErrWord.{ErrWord}
 use Rattle.nutcore.proofs.Common.{length-map, Event, SessionState, ServerState, session, UpsId}
 use Rattle.nutcore.specs.declared.event.Event.TheVariants.{DriverUp, DriverBytes, DriverTook, DriverDown, Tick, Open, Feed, Took, Close, Id}
 use Rattle.nutcore.specs.declared.note.Note.{Note}

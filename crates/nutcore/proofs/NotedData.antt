@@ -3,10 +3,10 @@ use Rattle.std.proofs.Common.{◌≡◌, ◌≢◌, ◌∙◌, inl, inr, ℕ, ze
 use Rattle.std.specs.List.{filter_map, cons_option}
 use Rattle.std.specs.Option.{option_and_then}
 use Rattle.std.proofs.lemmas.Bool.{cases_Bool, eq-eqb}
-use Rattle.nutanswer.specs.declared.command.Command.{Command}
-use Rattle.nutanswer.specs.declared.command.Command.TheVariants.{Logout}
-use Rattle.nutanswer.specs.declared.err_word.ErrWord.{ErrWord}
-use Rattle.nutanswer.specs.Command.{read_command}
+use Rattle.nutparse.specs.declared.command.Command.{Command}
+use Rattle.nutparse.specs.declared.command.Command.TheVariants.{Logout}
+use Rattle.nutparse.specs.declared.err_word.ErrWord.{ErrWord}
+use Rattle.nutparse.specs.Command.{read_command}
 use Rattle.nuttracking.specs.Tracking.{nothing_tracked}
 use Rattle.nutusers.specs.UpsList.{id_at}
 use Rattle.nutcore.proofs.Common.{slice_get, slice_get-map, option_map, option_map_or, cond_both, eqb-true, eqb-false, UpsId, Event, Outcome, SessionState, UpsState, ServerState, session, ups_at, with_ups_changed, after}

@@ -7,13 +7,13 @@ use Rattle.std.proofs.lemmas.Bool.{cases_Bool, eq-eqb}
 use Rattle.std.proofs.lemmas.List.Elements.{filter_map-append}
 use Rattle.nutusers.specs.UpsList.{Ups}
 use Rattle.nutusers.specs.declared.rights.Right.TheVariants as rights
-use Rattle.nutanswer.specs.declared.command.Command.{Command}
-use Rattle.nutanswer.specs.declared.command.Command.TheVariants.{Login, Logout}
-use Rattle.nutanswer.specs.declared.err_word.ErrWord.{ErrWord}
-use Rattle.nutanswer.specs.declared.err_word.ErrWord.TheVariants.{AccessDenied, AlreadyLoggedIn}
+use Rattle.nutparse.specs.declared.command.Command.{Command}
+use Rattle.nutparse.specs.declared.command.Command.TheVariants.{Login, Logout}
+use Rattle.nutparse.specs.declared.err_word.ErrWord.{ErrWord}
+use Rattle.nutparse.specs.declared.err_word.ErrWord.TheVariants.{AccessDenied, AlreadyLoggedIn}
 use Rattle.nutanswer.specs.declared.reply.Change.TheVariants as changes
-use Rattle.nutanswer.specs.ErrWord.{error_line, spelling_of}
-use Rattle.nutanswer.specs.Command.{read_command}
+use Rattle.nutparse.specs.ErrWord.{error_line, spelling_of}
+use Rattle.nutparse.specs.Command.{read_command}
 use Rattle.nutanswer.specs.Checks.{◌>>=◌, ◌>>◌, unless, KnownUps, user, unknown_ups, already_logged_in}
 use Rattle.nutanswer.specs.Answer.{Answer, one_line, ok, answer_to, text_of_answer, change_of_answer}
 use Rattle.nutanswer.specs.Rows.{ComesOf}

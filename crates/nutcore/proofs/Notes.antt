@@ -6,9 +6,9 @@ use Rattle.std.specs.Option.{option_and_then, option_map}
 use Rattle.std.proofs.lemmas.Bool.Decides.{nat_tests}
 use Rattle.std.proofs.lemmas.List.Elements.{filter_map-append}
 use Rattle.std.proofs.lemmas.Slice.Eq.{bytes_eq-Decides}
-use Rattle.nutanswer.specs.declared.command.Command.{Command}
-use Rattle.nutanswer.specs.declared.err_word.ErrWord.{ErrWord}
-use Rattle.nutanswer.specs.Command.{read_command}
+use Rattle.nutparse.specs.declared.command.Command.{Command}
+use Rattle.nutparse.specs.declared.err_word.ErrWord.{ErrWord}
+use Rattle.nutparse.specs.Command.{read_command}
 use Rattle.nutanswer.specs.declared.reply.Reply.{Reply}
 use Rattle.nutcore.proofs.Common.{Fault, SessionState, ServerState, session, UpsId}
 use Rattle.nutcore.specs.declared.note.Note.{Note}

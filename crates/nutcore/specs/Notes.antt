@@ -9,13 +9,13 @@ use Rattle.std.specs.Str.{bytes_eq}
 use Rattle.nutwords.specs.Reading.{read_name}
 use Rattle.nutdriver.specs.LastLine.{value_of}
 use Rattle.nutusers.specs.declared.ups_list.UpsId.{UpsId}
-use Rattle.nutanswer.specs.declared.command.Command.{Command}
-use Rattle.nutanswer.specs.declared.command.Command.TheVariants.{Login, Primary, Fsd, SetVar}
-use Rattle.nutanswer.specs.declared.command.Command.TheVariants.{InstCmd, Logout}
-use Rattle.nutanswer.specs.declared.err_word.ErrWord.{ErrWord}
+use Rattle.nutparse.specs.declared.command.Command.{Command}
+use Rattle.nutparse.specs.declared.command.Command.TheVariants.{Login, Primary, Fsd, SetVar}
+use Rattle.nutparse.specs.declared.command.Command.TheVariants.{InstCmd, Logout}
+use Rattle.nutparse.specs.declared.err_word.ErrWord.{ErrWord}
 use Rattle.nutanswer.specs.declared.reply.Change.{Change}
 use Rattle.nutanswer.specs.declared.reply.Change.TheVariants as changes
-use Rattle.nutanswer.specs.Command.{read_command}
+use Rattle.nutparse.specs.Command.{read_command}
 use Rattle.nutcore.specs.declared.note.Note.{Note}
 use Rattle.nutcore.specs.declared.note.Note.TheVariants.{Data, StatusChanged, LinesRefused}
 use Rattle.nutcore.specs.declared.note.Note.TheVariants.{LoggedOut, Did}

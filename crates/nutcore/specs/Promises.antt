@@ -15,15 +15,15 @@ use Rattle.nutanswer.specs.declared.reply.Change.{Change}
 use Rattle.nutanswer.specs.declared.reply.Change.TheVariants.{Nothing}
 use Rattle.nutanswer.specs.Orders.{order}
 use Rattle.nutlisting.specs.declared.outbox.TheConstants.{OWED_LIMIT}
-use Rattle.nutanswer.specs.Command.{read_command}
+use Rattle.nutparse.specs.Command.{read_command}
 use Rattle.nutlisting.specs.Bounded.{with_one}
 use Rattle.nutlisting.specs.Counted.{KeepsCount}
 use Rattle.nutlisting.specs.Counts.{lines}
 use Rattle.nutlisting.specs.Lines.{IsWholeLine}
 use Rattle.nutlisting.specs.Items.{text_of, client_listing}
 use Rattle.nutanswer.specs.View.{Seen, AskerSeen, addresses_at}
-use Rattle.nutanswer.specs.declared.command.Command.{Command}
-use Rattle.nutanswer.specs.declared.err_word.ErrWord.{ErrWord}
+use Rattle.nutparse.specs.declared.command.Command.{Command}
+use Rattle.nutparse.specs.declared.err_word.ErrWord.{ErrWord}
 use Rattle.nutcore.specs.Session.{SessionState}
 use Rattle.nutwords.specs.WholeLines.{unfinished_after, is_too_long}
 use Rattle.nutdriver.specs.declared.report.LineOutcome.{LineOutcome}

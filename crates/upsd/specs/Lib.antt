@@ -5,6 +5,4 @@ pub mod Configuration
 pub mod Replaying
 pub mod Task
 pub mod Words
-pub mod Refusals
-pub mod LogBuffer
 pub mod Recorded

@@ -1,10 +1,7 @@
-//! The numbers of the program, how often it logs what, and what a record is read as.
+//! The numbers of the program, and what a record is read as.
 ghost use Rattle.std.specs.Prelude.{◌≡◌, codes};
 ghost use Rattle.upsd.specs.Recorded.{ARecordIsTheRun};
-ghost use Rattle.upsd.specs.Refusals.{ARefusalIsLoggedOnceASecond};
 ghost use Rattle.upsd.specs.declared.ending.TheConstants.{DONE, FAULT, WORD_FAULT};
-ghost use Rattle.upsd.specs.declared.journal.TheConstants.{REFUSAL_LIMIT};
-ghost use Rattle.upsd.specs.declared.log_buffer.TheConstants.{LOG_LIMIT};
 ghost use Rattle.upsd.specs.declared.task.TheConstants.{DEFAULT_ADDRESS};
 
 use crate::recorded::Recorded;
@@ -12,20 +9,12 @@ use nutio::Sink;
 use nutloop::Sockets;
 use nutloop::laws::every_event_is_recorded;
 
-/// The statuses, the refusals logged in a second, the most bytes of the journal that wait, and the default address.
+/// The statuses and the default address.
 pub fn numbers()
     ensures done { DONE ≡ 0 }
     ensures fault { FAULT ≡ 1 }
     ensures words { WORD_FAULT ≡ 2 }
-    ensures refusals { REFUSAL_LIMIT ≡ 64 }
-    ensures waiting { LOG_LIMIT ≡ 32768 }
     ensures address { DEFAULT_ADDRESS.now ≡ codes "127.0.0.1:3493" }
-{}
-
-/// Of each session at most one refusal is logged in a second, whatever else is noted meanwhile.
-#[tactic(auto, using(crate::proofs::Refusals::a_refusal_is_logged_once_a_second))]
-pub fn a_refusal_is_logged_once_a_second()
-    ensures { ARefusalIsLoggedOnceASecond }
 {}
 
 /// After any turns and then a look or the end of serving, whatever the sockets do, `replay` reads

@@ -12,9 +12,7 @@ ghost use Rattle.upsd.specs.Words.{AreRead, replay_app, serve_app};
 
 mod ending;
 mod files;
-mod journal;
 mod laws;
-mod log_buffer;
 mod reading;
 mod recorded;
 mod replaying;

@@ -11,13 +11,13 @@ ghost use Rattle.upsd.specs.Recorded.{ServesRecorded};
 
 use crate::ending::Ending;
 use crate::files::{Files, server_of};
-use crate::journal::Journal;
 use crate::reading::{create, open};
 use crate::recorded::{Recorded, Recorder, Served};
 use crate::task::Service;
 use crate::warnings::warn;
 use nutcore::Server;
 use nutio::{CountedWriter, Sink, send};
+use nutjournal::Journal;
 use nutloop::{MioSockets, Sockets};
 use nutversion::VERSION;
 use std::alloc::Global;
@@ -149,7 +149,8 @@ fn serve_over<'a, S: Served<File>>(
         server.old.state sockets.old server.new.state sockets.new }
 {
     let address = service.address;
-    let mut journal = Journal::new(rt.alloc(), service).map_err(|_| Ending::Memory)?;
+    let journal = Journal::new(rt.alloc(), service.priorities, service.max_age);
+    let mut journal = journal.map_err(|_| Ending::Memory)?;
     warn(rt, files, server.ups(), server.users());
     match tell_bound(rt, address, sockets.shown().0.local_addr()) {
         Ok(()) => go_round(rt, server, sockets, &mut journal),
@@ -188,7 +189,9 @@ fn go_round<'a, S: Served<File>>(
     ensures run { IsOneRun server.old.state server.new.state }
 {
     match nutloop::serve(server, sockets, |server, sockets| {
-        journal.write(rt, server, sockets);
+        let (sockets, is_record_cut) = sockets.shown();
+        let error_of = |u| sockets.driver_error(u);
+        journal.write(rt, server, error_of, sockets.refusals(), is_record_cut);
     }) {
         Ok(()) => Ok(()),
         Err(fault) => Err(Ending::Loop(fault)),

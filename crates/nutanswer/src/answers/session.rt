@@ -4,12 +4,11 @@ ghost use Rattle.std.specs.Prelude.{Ok};
 ghost use Rattle.nutanswer.specs.View.{Seen, asker_seen};
 ghost use Rattle.nutanswer.specs.Answer.{answer_to, ok};
 ghost use Rattle.nutanswer.specs.Promises.{Gives, GivesReply, row};
-ghost use Rattle.nutanswer.specs.declared.command.Command.TheVariants.{Username, Password, Login, Primary, Fsd, GetTracking, ListClient};
+ghost use Rattle.nutparse.specs.declared.command.Command.TheVariants.{Username, Password, Login, Primary, Fsd, GetTracking, ListClient};
 
 use super::{Row, ok, plain};
-use crate::{
-    Asker, Change, ErrWord, GivenPassword, PasswordWord, Peers, Reply, UpsWord, UserWord, View,
-};
+use crate::{Asker, Change, GivenPassword, Peers, Reply, View};
+use nutparse::{ErrWord, PasswordWord, UpsWord, UserWord};
 use nutusers::Right;
 use nutwords::Line;
 

@@ -1,5 +1,5 @@
 use Rattle.std.proofs.Common.{◌∙◌, [], Option, None, Ok, refl, sym, ap, subst, inl, inr, arith}
-use Rattle.nutanswer.specs.declared.command.Command.{Command}
+use Rattle.nutparse.specs.declared.command.Command.{Command}
 use Rattle.nutanswer.specs.View.{asker_seen}
 use Rattle.nutanswer.proofs.PublicLaws.{error_lines_are_whole}
 use Rattle.nutcore.specs.Promises.{IsLineOrNone}

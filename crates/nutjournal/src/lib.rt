@@ -1,0 +1,8 @@
+//! The journal of a server: what is logged of its UPSs and their clients, and the lines on their way to standard error.
+#![tactic(auto)]
+
+mod journal;
+pub mod laws;
+mod log_buffer;
+
+pub use journal::Journal;

@@ -1,0 +1,117 @@
+//! The lines of the journal on their way to standard error. It may be a pipe that nobody reads, so no write waits.
+ghost use Rattle.std.specs.Prelude.{◌≡◌, [], IfOk};
+ghost use Rattle.nutjournal.specs.LogBuffer.{after_line};
+
+use arrayvec::ArrayString;
+use libc::STDERR_FILENO;
+use libc::net::{POLLOUT, poll};
+use libc::types::pollfd;
+use nutlisting::ByteQueue;
+use nutwords::UpsName;
+use std::alloc::{AllocError, Global};
+use std::fmt::{Display, Write as _};
+use std::io::Write;
+use std::mem;
+
+/// The priorities of lines (syslog(3)).
+pub const CRITICAL: u8 = 2;
+
+pub const WARNING: u8 = 4;
+
+pub const NOTICE: u8 = 5;
+
+pub const INFO: u8 = 6;
+
+/// The most bytes of lines that wait.
+pub const LOG_LIMIT: usize = 32_768;
+
+/// No line has more bytes: a status has at most 512, each of which is shown by at most four.
+const LINE_LIMIT: usize = 4 * 512 + 256;
+
+/// How many bytes a pipe takes without waiting where it takes any (Linux's PIPE_BUF).
+const PIECE_LIMIT: usize = 4096;
+
+/// The lines that standard error hasn't taken yet, and how many had no room among them.
+#[derive(Drop)]
+pub struct LogBuffer {
+    has_priorities: bool,
+    pub waiting: ByteQueue<LOG_LIMIT>,
+    pub dropped: u64,
+}
+
+impl LogBuffer {
+    /// No line waits. With priorities each line begins with its own, as `<4>`.
+    ///
+    /// # Errors
+    ///
+    /// `AllocError` where memory is refused.
+    pub fn new(alloc: Global, has_priorities: bool) -> Result<LogBuffer, AllocError>
+        ensures waiting { IfOk result (λ log. log.waiting ≡ []) }
+        ensures dropped { IfOk result (λ log. log.dropped ≡ 0) }
+    {
+        Ok(LogBuffer {
+            has_priorities,
+            waiting: ByteQueue::new(alloc)?,
+            dropped: 0,
+        })
+    }
+
+    /// Adds a line of this priority, about the UPS if there is one. A line that has no room is dropped and counted. So are
+    /// those after it, until the count is logged. Takes no memory.
+    pub fn add<D: Display>(&mut self, priority: u8, ups: Option<&UpsName>, line: &D) {
+        let mut text = ArrayString::<LINE_LIMIT>::new();
+        if self.has_priorities {
+            let _ = write!(text, "<{priority}>");
+        }
+        let name = ups.map_or(b"".as_slice(), |ups| ups.as_bytes());
+        let colon = if name.is_empty() { "" } else { ": " };
+        let _ = writeln!(text, "upsd: {}{colon}{line}", name.escape_ascii());
+        self.add_line(text.as_bytes());
+    }
+
+    /// Adds a line, where it is due.
+    pub fn add_if<D: Display>(&mut self, due: bool, priority: u8, ups: Option<&UpsName>, line: &D) {
+        if due {
+            self.add(priority, ups, line);
+        }
+    }
+
+    /// Adds a line, or counts it as dropped.
+    fn add_line(&mut self, line: &[u8])
+        ensures { self.new ≡ after_line line.now self.old }
+    {
+        if self.dropped == 0 && line.len() <= self.waiting.free() {
+            self.waiting.push(line);
+        } else {
+            self.dropped = self.dropped.saturating_add(1);
+        }
+    }
+
+    /// Writes what waits, as far as standard error takes it without waiting.
+    pub fn flush(&mut self, rt: &HostRuntime) {
+        for _ in 0..=LOG_LIMIT / PIECE_LIMIT {
+            if self.waiting.len() == 0 {
+                let count = mem::replace(&mut self.dropped, 0);
+                let line = format_args!("{count} lines of the journal were dropped");
+                self.add_if(count > 0, INFO, None, &line);
+            }
+            let count = self.waiting.len().min(PIECE_LIMIT);
+            if count == 0 || !takes_bytes() {
+                return;
+            }
+            let piece = &self.waiting.bytes()[..count];
+            let written = rt.stderr().write(piece).unwrap_or(0);
+            self.waiting.drop_front(written);
+        }
+    }
+}
+
+/// Whether standard error takes bytes without waiting: of a pipe `PIECE_LIMIT` at least.
+fn takes_bytes() -> bool {
+    let mut asked = [pollfd {
+        fd: STDERR_FILENO,
+        events: POLLOUT,
+        revents: 0,
+    }];
+    poll(&mut asked, 0) > 0 && asked[0].revents & POLLOUT != 0
+}

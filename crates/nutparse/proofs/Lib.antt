@@ -1,0 +1,3 @@
+mod LawfulWords
+mod Commands
+pub mod PublicLaws

@@ -1,0 +1,3 @@
+pub mod ErrWord
+pub mod Command
+pub mod Promises
