@@ -12,7 +12,7 @@ from kit import rt, rtlib
 
 # From so many lines on a crate of the chain is checked by four jobs, and all else by two: two take 1.2 times the work of
 # one, four take 1.5 times.
-LONG = 1000
+LONG = 900
 
 
 def build(crate, jobs):

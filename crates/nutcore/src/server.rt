@@ -511,8 +511,8 @@ impl Server {
     {
         self.forget();
         let place = self.place_of(c)?;
-        let session = self.sessions.remove(place);
-        session.note_logout(&mut self.notes);
+        self.sessions[place].note_logout(&mut self.notes);
+        drop(self.sessions.remove(place));
         Ok(())
     }
 
@@ -536,7 +536,7 @@ impl Server {
         }
     }
 
-    /// One event, by the call above that is its own.
+    /// One event: what its call above does.
     pub fn step(&mut self, event: &Event) -> Outcome
         ensures step { Step self.old.state event.now result self.new.state }
         ensures cost { Costs self.old event.now self.new }

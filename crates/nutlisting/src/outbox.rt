@@ -56,10 +56,11 @@ impl Outbox {
     pub fn new(alloc: Global) -> Result<Self, AllocError>
         ensures { IfOk result (λ outbox. (outbox.queue ≡ []) × (outbox.cursor ≡ None)) }
     {
+        let (queue, clients) = (ByteQueue::new(alloc)?, Clients::new(alloc)?);
         Ok(Outbox {
-            queue: ByteQueue::new(alloc)?,
+            queue,
             cursor: None,
-            clients: Some(Clients::new(alloc)?),
+            clients: Some(clients),
         })
     }
 
@@ -115,7 +116,7 @@ impl Outbox {
         ensures counts { renders.new ≡ count_more renders.old
             (lines (what_fits self.old.queue (text_of listing))) }
     {
-        self.cursor = Some(Cursor::start(listing));
+        drop(self.cursor.replace(Cursor::start(listing)));
         let (queue, clients) = (&mut self.queue, &mut self.clients);
         drain(&mut self.cursor, queue, clients, line, renders);
     }
@@ -141,7 +142,7 @@ impl Outbox {
             (lines (what_fits self.old.queue (text_of (client_listing ups.now clients.old)))) }
     {
         let place = self.clients.take().unwrap();
-        self.cursor = Some(clients_cursor(ups, clients, place));
+        drop(self.cursor.replace(clients_cursor(ups, clients, place)));
         let (queue, clients) = (&mut self.queue, &mut self.clients);
         drain(&mut self.cursor, queue, clients, line, renders);
     }

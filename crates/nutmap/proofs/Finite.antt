@@ -1,5 +1,5 @@
 -- A list of entries as a finite map.
-use Rattle.std.proofs.Common.{◌≡◌, Bool, true, false, cond, List, [], ◌∷◌, Some, None, Option, refl, sym, ap, ◌∙◌}
+use Rattle.std.proofs.Common.{◌≡◌, Bool, true, false, cond, List, [], ◌∷◌, Some, None, Option, refl, ap}
 use Rattle.std.specs.declared.cmp.Ordering.{Ordering}
 use Rattle.std.specs.declared.cmp.Ordering.TheVariants.{Less, Equal, Greater}
 use Rattle.std.specs.Ordering.{match_ordering, is_eq}
@@ -10,7 +10,7 @@ use Rattle.std.proofs.lemmas.Cmp.{alike_right, eq_by_cmp_equiv}
 use Rattle.std.proofs.lemmas.Map.{lookup-remove_entry}
 use Rattle.std.proofs.lemmas.Map.Keys.{IsDistinct-from_sorted}
 use Rattle.nutmap.specs.Entries.{value_at, HasRisingKeys}
-use Rattle.nutmap.proofs.Ordered.{AllKeys, Rises, rising_all, rising_tail, less_from_greater}
+use Rattle.nutmap.proofs.Ordered.{less_from_greater}
 
 equal_when : (c : Ordering) → is_eq c ≡ true → c ≡ Equal
 equal_when Less h = absurd (cc)

@@ -38,23 +38,23 @@ pub invariant_of-self : goal.invariant_of-self
 invariant_of-self c =
     let v : ServerState = (the_view c.self.inside).state in
     let at : IsAt c.args.c c.in_ok-place.place v.sessions = subst (λ (z : ServerState). IsAt c.args.c c.in_ok-place.place z.sessions) (sym (state_is c.self.view_is)) c.in_ok-place.ensures.place in
-    let left : c.remove-session.new.self.items ≡ without c.args.c v.sessions = c.remove-session.ensures.by_index.2 ∙ sym (left_out 1 v.next_id c.args.c c.in_ok-place.place v.sessions c.self.invariant.sound.ids at) in
+    let left : c.remove.new.self.items ≡ without c.args.c v.sessions = c.remove.ensures.by_index.2 ∙ sym (left_out 1 v.next_id c.args.c c.in_ok-place.place v.sessions c.self.invariant.sound.ids at) in
     record {
       sound = subst (λ (xs : List SessionState). let z : ServerState = record v { sessions = xs } in IsSound z) (sym left) (sound_closed v c.args.c c.self.invariant.sound);
-      room = omega (arith, c.remove-session.ensures.capacity, c.self.invariant.room);
+      room = omega (arith, c.remove.ensures.capacity, c.self.invariant.room);
     }
 
 pub returns-clause-served : goal.returns-clause-served
 returns-clause-served c =
     let v : ServerState = (the_view c.self.inside).state in
     let at : IsAt c.args.c c.in_ok-place.place v.sessions = subst (λ (z : ServerState). IsAt c.args.c c.in_ok-place.place z.sessions) (sym (state_is c.self.view_is)) c.in_ok-place.ensures.place in
-    let left : c.remove-session.new.self.items ≡ without c.args.c v.sessions = c.remove-session.ensures.by_index.2 ∙ sym (left_out 1 v.next_id c.args.c c.in_ok-place.place v.sessions c.self.invariant.sound.ids at) in
-    let t : ServerState = record v { sessions = c.remove-session.new.self.items } in
-    served_from _ _ _ _ _ c.forget.ensures.state c.place_of.ensures.lawful (step_from v c.forget.new.self.state t t (Close c.args.c) Done (state_is c.self.view_is) refl (close_present v c.args.c _ c.remove-session.new.self.items (at_found c.args.c c.in_ok-place.place v.sessions at) left))
+    let left : c.remove.new.self.items ≡ without c.args.c v.sessions = c.remove.ensures.by_index.2 ∙ sym (left_out 1 v.next_id c.args.c c.in_ok-place.place v.sessions c.self.invariant.sound.ids at) in
+    let t : ServerState = record v { sessions = c.remove.new.self.items } in
+    served_from _ _ _ _ _ c.forget.ensures.state c.place_of.ensures.lawful (step_from v c.forget.new.self.state t t (Close c.args.c) Done (state_is c.self.view_is) refl (close_present v c.args.c _ c.remove.new.self.items (at_found c.args.c c.in_ok-place.place v.sessions at) left))
 
 pub returns-clause-notes : goal.returns-clause-notes
 returns-clause-notes c =
     let v : ServerState = (the_view c.self.inside).state in
-    let found : session c.args.c c.forget.new.self.state ≡ Some c.remove-session.result = found_in c.args.c c.in_ok-place.place v c.forget.new.self.state c.remove-session.result (state_is c.self.view_is) c.in_ok-place.ensures.place c.remove-session.ensures.value in
-    let noted : logout_of c.remove-session.result ≡ option_and_then logout_of (session c.args.c c.args.self.now.state) = sym (ap (option_and_then logout_of) (ap (session c.args.c) (sym c.forget.ensures.state) ∙ found)) in
-    c.note_logout.ensures ∙ one_noted [] (logout_of c.remove-session.result) c.self.inside.notes (ap (λ (r : RunningServer). r.notes) c.self.view_is ∙ c.forget.ensures.notes) ∙ ap (λ (o : Option Note). take NOTE_LIMIT (cons_option o [])) noted
+    let found : session c.args.c c.forget.new.self.state ≡ Some c.index.result.now = found_in c.args.c c.in_ok-place.place v c.forget.new.self.state c.index.result.now (state_is c.self.view_is) c.in_ok-place.ensures.place c.index.ensures in
+    let noted : logout_of c.index.result.now ≡ option_and_then logout_of (session c.args.c c.args.self.now.state) = sym (ap (option_and_then logout_of) (ap (session c.args.c) (sym c.forget.ensures.state) ∙ found)) in
+    c.note_logout.ensures ∙ one_noted [] (logout_of c.index.result.now) c.self.inside.notes (ap (λ (r : RunningServer). r.notes) c.self.view_is ∙ c.forget.ensures.notes) ∙ ap (λ (o : Option Note). take NOTE_LIMIT (cons_option o [])) noted

@@ -1,4 +1,4 @@
-use Rattle.std.proofs.Common.{rules, arith, ◌≡◌}
+use Rattle.std.proofs.Common.{rules, arith}
 use Rattle.std.proofs.lemmas.Grind.{common_steps}
 use Rattle.nutusers.specs.UpsList.{IsList}
 use Rattle.nutcore.specs.Sound.{IsMaxAge}
