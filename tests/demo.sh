@@ -67,10 +67,10 @@ grep -vE "^(upsd: demo: (driver connected|data good|status [A-Z ]+)|$ordered .*|
 
 # A driver that ends leaves its socket. The next one takes its place; no other one does while that lives.
 driver=(crates/demodriver/out/demodriver "$folder/driver")
-timeout 0.5 "${driver[@]}" >"$folder/drove" || [[ -S $folder/driver ]] || fails 'a socket is left'
+timeout 0.5 "${driver[@]}" >/dev/null || [[ -S $folder/driver ]] || fails 'a socket is left'
 "${driver[@]}" >"$folder/drove" &
 demo=$!
-within 30 'a socket that was left' grep -q listening "$folder/drove"
+within 30 'a socket that was left' grep -qs listening "$folder/drove"
 [[ $(timeout 5 "${driver[@]}" 2>&1) == *AddrInUse* ]] || fails 'a socket that is taken'
 ((failed == 0)) && echo "demo: ok: $checks checks"
 exit "$failed"

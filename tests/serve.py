@@ -110,9 +110,9 @@ def dangers_of_the_files_are_told():
     dangers = [("a", NO_PASSWORD), ("b", EXAMPLE), ("b", SMALL), ("c", EXAMPLE), ("d", NO_PASSWORD)]
     users, ups = file("dangerous", dangerous), file("connected", "[su]\nsocket = /run/nut/su\n")
     lines = [f"upsd: warning: {users}: [{name}]: {danger}" for name, danger in dangers]
-    for mode, is_told in [(0o604, True), (0o640, False), (0o644, True)]:
+    for mode, is_warned in [(0o604, True), (0o640, False), (0o644, True)]:
         os.chmod(users, mode)
-        told = [f"upsd: warning: {users}: everybody may read it"] * is_told + lines
+        told = [f"upsd: warning: {users}: everybody may read it"] * is_warned + lines
         assert warned(ups, "--users", users) == (told, 0), oct(mode)
     assert warned(ups, "--users", path("users")) == ([], 0)
     example = warned(ups, "--users", f"{HERE}/../examples/upsd.users")[0]
