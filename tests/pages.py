@@ -35,7 +35,7 @@ MESSAGES = [
     ("crates/upsd/src/ending.rt", r'#\[error\("(.*)"\)\]', r"\1"),
     ("crates/nutloop/src/fault.rt", r'#\[error\("(.*)"\)\]', r"\1"),
     ("crates/upsd/src/warnings.rt", r'warn_if\(.*, &"(.*)"\);', r"warning: PATH: \1"),
-    ("crates/upsd/src/warnings.rt", r'(?:format_args!\("\[\{\}\]: |^ *tell\([a-z]+, ")([^"]*)"\)?[,;)].*$', r"warning: PATH: [NAME]: \1"),
+    ("crates/upsd/src/warnings.rt", r'(?:format_args!\("\[\{\}\]: |^ *note\([a-z]+, ")([^"]*)"\)?[,;)].*$', r"warning: PATH: [NAME]: \1"),
     *((path, r'"(.*)"\)?;\n.*, None, &line\);', r"\1") for path in ("crates/nutjournal/src/log_buffer.rt", JOURNAL)),
     (JOURNAL, r'format_args!\("([a-z].*)"\)(?:\);|;\n.*, ups, &line\);)', r"su: \1"),
     (JOURNAL, r'DataState::.* &"(.*)"\),', r"su: \1"),

@@ -23,29 +23,29 @@ heap() {
 }
 
 # Prints a cost, of so many things that the second run does more than the first.
-tell() {
+driver_sends() {
     local what=$1 things=$2 less=$3 more=$4
     printf '%-58s %9d\n' "$what" $(((more - less) / things))
 }
 
-tell 'GET VAR, from line to taken answer' 10000 "$(instructions get 1000)" "$(instructions get 11000)"
-tell 'GET VAR, of 60 that are sent at once' $((60 * 200)) "$(instructions pipeline 100)" "$(instructions pipeline 300)"
-tell "GET VAR and the 512 bytes of a driver's read before it" 1000 "$(instructions flood 100)" "$(instructions flood 1100)"
+driver_sends 'GET VAR, from line to taken answer' 10000 "$(instructions get 1000)" "$(instructions get 11000)"
+driver_sends 'GET VAR, of 60 that are sent at once' $((60 * 200)) "$(instructions pipeline 100)" "$(instructions pipeline 300)"
+driver_sends "GET VAR and the 512 bytes of a driver's read before it" 1000 "$(instructions flood 100)" "$(instructions flood 1100)"
 # Those 1,000 reads hold lines of 27 bytes, and a GET beside them is counted as one alone.
 gets=$(($(instructions get 2000) - $(instructions get 1000)))
-tell "a line of such a read, of 27 bytes, without the GET" $((1000 * 512 / 27)) \
+driver_sends "a line of such a read, of 27 bytes, without the GET" $((1000 * 512 / 27)) \
     $(($(instructions flood 100) + gets)) "$(instructions flood 1100)"
-tell 'SET VAR, from line to taken answer and order' 10000 "$(instructions set 1000)" "$(instructions set 11000)"
+driver_sends 'SET VAR, from line to taken answer and order' 10000 "$(instructions set 1000)" "$(instructions set 11000)"
 for width in 10 256; do
-    tell "an item of LIST VAR, values of $width bytes" $((10 * 4096)) \
+    driver_sends "an item of LIST VAR, values of $width bytes" $((10 * 4096)) \
         "$(instructions list $width 1)" "$(instructions list $width 11)"
 done
 for paused in 0 64; do
-    tell "SETINFO, $paused listings paused" 10000 \
+    driver_sends "SETINFO, $paused listings paused" 10000 \
         "$(instructions report 10 $paused 1000)" "$(instructions report 10 $paused 11000)"
 done
 # Before each SETINFO a listing begins, which costs the same beside a variable without enum values.
 without=$(($(instructions share 0 1100) - $(instructions share 0 100)))
-tell '256 enum values of a variable, at a SETINFO under a listing' 1000 \
+driver_sends '256 enum values of a variable, at a SETINFO under a listing' 1000 \
     $(($(instructions share 256 100) + without)) "$(instructions share 256 1100)"
-tell 'bytes of heap of a session with a paused listing' 63 "$(heap report 256 1 0)" "$(heap report 256 64 0)"
+driver_sends 'bytes of heap of a session with a paused listing' 63 "$(heap report 256 1 0)" "$(heap report 256 64 0)"

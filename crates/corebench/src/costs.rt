@@ -6,7 +6,8 @@ use nutwords::Address;
 use std::alloc::{AllocError, Global};
 use std::fmt::Write;
 
-/// Prints what listings of two, of a hundred and of no variables cost, and a take of some of them, and a tick.
+/// Prints what listings of two, of a hundred and of no variables cost, and a take of some of them,
+/// and a tick.
 pub fn print_costs(rt: &impl Print, alloc: Global) -> Result<()> {
     let two = "SETINFO ups.status \"OL\"\nSETINFO battery.charge \"100\"\n";
     print_cost(rt, 2, costs(alloc, two, 17)?)?;
@@ -24,15 +25,15 @@ fn print_cost(rt: &impl Print, count: u32, [listing, take, tick]: [Cost; 3]) -> 
     Ok(())
 }
 
-/// What it costs a new server that a client asks for the variables, once the driver has told these lines, then that it
-/// takes so many bytes, and then a tick.
-fn costs(alloc: Global, told: &str, taken: usize) -> Result<[Cost; 3]> {
-    costs_of(&mut new_server(alloc)?, told, taken)
+/// What these cost a new server, after the driver has reported these lines: a client asks for the
+/// variables, then it takes so many bytes, and then a tick comes.
+fn costs(alloc: Global, reported: &str, taken: usize) -> Result<[Cost; 3]> {
+    costs_of(&mut new_server(alloc)?, reported, taken)
 }
 
-fn costs_of(server: &mut Server, told: &str, taken: usize) -> Result<[Cost; 3]> {
+fn costs_of(server: &mut Server, reported: &str, taken: usize) -> Result<[Cost; 3]> {
     server.driver_up(SU)?;
-    server.driver_bytes(SU, told.as_bytes())?;
+    server.driver_bytes(SU, reported.as_bytes())?;
     server.driver_bytes(SU, b"DUMPDONE\nDATAOK\n")?;
     let client = server.open(Address::read(b"::1")?)?;
     server.feed(client, b"LIST VAR su\n")?;
@@ -45,14 +46,14 @@ fn costs_of(server: &mut Server, told: &str, taken: usize) -> Result<[Cost; 3]> 
 
 /// The same of a hundred variables with values of 256 bytes.
 fn costs_of_hundred(alloc: Global) -> Result<[Cost; 3]> {
-    let mut told = String::new(alloc);
-    write_hundred(&mut told)?;
-    costs(alloc, told.as_str(), 4000)
+    let mut reported = String::new(alloc);
+    write_hundred(&mut reported)?;
+    costs(alloc, reported.as_str(), 4000)
 }
 
-fn write_hundred(told: &mut String) -> Result<()> {
+fn write_hundred(reported: &mut String) -> Result<()> {
     for number in 1..=100 {
-        writeln!(told, "SETINFO v{number:03} \"{:x<256}\"", "")?;
+        writeln!(reported, "SETINFO v{number:03} \"{:x<256}\"", "")?;
     }
     Ok(())
 }

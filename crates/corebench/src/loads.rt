@@ -28,7 +28,8 @@ pub enum Load {
     List(u32),
     /// The driver reports a variable again, so often, while so many listings wait.
     Report { paused: u32, count: u32 },
-    /// The driver reports a variable of so many enum values again, so often, each time under a listing that waits since.
+    /// The driver reports a variable of so many enum values again, so often, each time under a
+    /// listing that waits since.
     Share { enum_values: u32, count: u32 },
 }
 
@@ -117,7 +118,8 @@ impl Sample {
         Ok(())
     }
 
-    /// The driver reports its variables again, while so many clients have each asked for all of them and taken nothing.
+    /// The driver reports its variables again, while so many clients have each asked for all of
+    /// them and taken nothing.
     fn report_values(&mut self, paused: u32, count: u32) -> Result<u64> {
         self.pause_listings(paused)?;
         self.report(count)?;
@@ -128,15 +130,15 @@ impl Sample {
         Ok(self.take(client)?)
     }
 
-    /// The driver reports a variable of so many enum values again, so often, each time while a client waits who has asked
-    /// for all variables since, and takes what it is offered at once.
+    /// The driver reports a variable of so many enum values again, so often, each time while a
+    /// client waits who has asked for all variables since, and takes what it is offered at once.
     fn report_shared(&mut self, enum_values: u32, count: u32) -> Result<u64> {
         self.add_enum_values(enum_values)?;
         let mut taken = 0u64;
         for _ in 0..count {
             let client = self.open()?;
             self.send(client, b"LIST VAR su\n")?;
-            self.tell(b"SETINFO v2048 \"12\"\n")?;
+            self.driver_sends(b"SETINFO v2048 \"12\"\n")?;
             taken = taken.saturating_add(self.take_offered(client)? as u64);
             self.close(client)?;
         }

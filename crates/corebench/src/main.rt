@@ -1,9 +1,9 @@
 //! What requests cost a server of one UPS with 4,096 variables.
 //!
-//! With no words it does a little of each load, and prints how many bytes clients took; and what no clause says of the
-//! server: that with ample memory its calls are done, what they cost then, and the texts of faults. With the words of a
-//! load and its counts it does that alone, so that the difference of two runs is the cost of what one of them does more:
-//! `measure.sh` tells it.
+//! With no words it does a little of each load, and prints how many bytes clients took. It also
+//! prints what no clause says of the server: that with ample memory its calls are done, what they
+//! cost then, and the texts of faults. With the words of a load and its counts it does only that.
+//! So the difference of two runs is the cost of what one of them does more: `measure.sh` prints it.
 #![tactic(auto)]
 
 mod costs;
@@ -48,7 +48,7 @@ fn print_a_little(rt: &impl Print, alloc: Global) -> Result<()> {
     Ok(())
 }
 
-/// Does the load of these words, and tells how many bytes were taken.
+/// Does the load of these words, and prints how many bytes were taken.
 fn print_taken(rt: &impl Print, alloc: Global, words: &[String]) -> Result<()> {
     let (width, load) = read_load(words)?;
     let taken = run(alloc, width, load)?;

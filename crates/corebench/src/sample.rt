@@ -48,7 +48,7 @@ fn write_name(name: &mut String, number: u32) -> Result<()> {
     Ok(())
 }
 
-/// Joins the line that tells the value, so many bytes, of the variable of this name.
+/// Joins the line that reports the value, so many bytes, of the variable of this name.
 fn push_line(lines: &mut Vec<u8>, name: &[u8], width: usize) -> Result<()> {
     lines.extend_from_slice(b"SETINFO ")?;
     lines.extend_from_slice(name)?;
@@ -89,8 +89,8 @@ impl Sample {
     /// The driver connects, and reports all.
     fn begin(&mut self) -> Result<()> {
         self.connect()?;
-        self.tell_all()?;
-        self.tell(b"SETFLAGS v2048 RW STRING\nDUMPDONE\nDATAOK\n")?;
+        self.driver_sends_all()?;
+        self.driver_sends(b"SETFLAGS v2048 RW STRING\nDUMPDONE\nDATAOK\n")?;
         Ok(())
     }
 
@@ -106,18 +106,18 @@ impl Sample {
         for number in 0..count {
             line.clear();
             writeln!(line, "ADDENUM v2048 \"{number:0VALUE_LIMIT$}\"")?;
-            self.tell(line.as_bytes())?;
+            self.driver_sends(line.as_bytes())?;
         }
         Ok(())
     }
 
     /// The driver reports these lines.
-    pub fn tell(&mut self, lines: &[u8]) -> Result<(), Fault> {
+    pub fn driver_sends(&mut self, lines: &[u8]) -> Result<(), Fault> {
         self.server.driver_bytes(SU, lines)
     }
 
     /// The driver reports of each variable.
-    fn tell_all(&mut self) -> Result<()> {
+    fn driver_sends_all(&mut self) -> Result<()> {
         self.server.driver_bytes(SU, &self.lines)?;
         Ok(())
     }

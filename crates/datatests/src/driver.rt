@@ -52,7 +52,7 @@ fn call_laws() {
     laws::limits();
     laws::most_nodes_of_a_change();
     laws::read_lines_are_lawful();
-    laws::told_numbers_are_lawful();
+    laws::reported_numbers_are_lawful();
     laws::lawful_lines_keep_trees_sound();
     laws::each_line_keeps_the_tree_sound();
 }

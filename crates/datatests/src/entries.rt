@@ -7,8 +7,8 @@ use std::alloc::AllocError;
 /// How many entries are shown at most.
 const SHOWN: usize = 12;
 
-/// How many entries the map has, and the first of them, as a walk comes from each to the next. A cross stands behind one
-/// that a look-up doesn't find.
+/// How many entries the map has, and the first of them, as a walk comes from each to the next. A
+/// cross follows one that a look-up doesn't find.
 pub fn push_entries(answer: &mut String, map: &Map<u32, u32>) -> Result<(), AllocError> {
     push_number(answer, map.len() as u64)?;
     answer.push_str(" entries:")?;

@@ -1,9 +1,11 @@
-//! What no contract says of nutwords, nuttracking, nutmap, nutdriver and nutusers: which fault of a line it is, the texts of
-//! faults, that maps change while memory is there. It stands above these crates, so that none of them is proved twice.
+//! What no contract says of nutwords, nuttracking, nutmap, nutdriver and nutusers: which fault of a
+//! line it is, the texts of faults, that maps change while there is memory. It uses these crates,
+//! so that none of them is proved twice.
 //!
-//! A row is the name of a function, a space, and a text; what is printed is the row, and behind ` => ` the answer. In the
-//! text `\xHH`, `\n`, `\r`, `\t` and `\\` stand for their bytes, and `{UNIT*COUNT}` for a unit so many times. A row that is
-//! empty or begins with `#` is printed as it is. A map, a version of it and a tree are kept from row to row.
+//! A row is the name of a function, a space, and a text. What is printed is the row, ` => ` and the
+//! answer. In the text `\xHH`, `\n`, `\r`, `\t` and `\\` stand for their bytes, and `{UNIT*COUNT}`
+//! for a unit so many times. A row that is empty or begins with `#` is printed as it is. A map, a
+//! version of it and a tree are kept from row to row.
 #![tactic(auto)]
 
 mod driver;

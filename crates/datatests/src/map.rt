@@ -54,7 +54,7 @@ fn fill(kept: &mut Kept, len: u32) -> Result<(), AllocError> {
     Ok(())
 }
 
-/// Gives a key the value behind the bar. The answer is what value it had.
+/// Gives a key the value after the bar. The answer is what value it had.
 fn push_set(answer: &mut String, kept: &mut Kept, text: &[u8]) -> Result<(), AllocError> {
     let (key, value) = parted(text);
     let (key, value) = (natural32(key), natural32(value));
@@ -64,7 +64,7 @@ fn push_set(answer: &mut String, kept: &mut Kept, text: &[u8]) -> Result<(), All
     )
 }
 
-/// Changes a key's value to the one behind the bar, in its place. The answer is whether it did.
+/// Changes a key's value to the one after the bar, in its place. The answer is whether it did.
 fn push_change_in_place(
     answer: &mut String,
     kept: &mut Kept,
@@ -118,7 +118,8 @@ fn taken_out(map: &Map<u32, u32>, key: u32) -> Result<Option<Rc<u32>>, AllocErro
     map.share()?.remove(&key, &mut Meter::new())
 }
 
-/// The version that the law of versions gives, of a map into which 5 comes and out of which 1 is taken.
+/// The version that the law of versions gives, of a map into which 5 comes and out of which 1 is
+/// taken.
 fn set_apart(kept: &mut Kept) -> Result<(), AllocError> {
     kept.map_version = laws::versions_are_apart(&mut kept.map, 5, 50, &1, &mut kept.meter)?;
     Ok(())

@@ -49,7 +49,7 @@ pub fn natural32(text: &[u8]) -> u32 {
     u32::try_from(natural(text)).unwrap_or(0)
 }
 
-/// The text before the first bar, and that behind it.
+/// The text before the first bar, and that after it.
 pub fn parted(text: &[u8]) -> (&[u8], &[u8]) {
     let Some(bar) = text.iter().position(|b| *b == b'|') else {
         return (text, b"");

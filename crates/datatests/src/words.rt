@@ -80,8 +80,8 @@ fn push_quoted(answer: &mut String, text: &[u8]) -> Result<(), AllocError> {
     push_words(answer, line.as_slice())
 }
 
-/// Quotes the word at the end of the line, behind a space where words stand before it. Answers whether it is as long as
-/// was told.
+/// Quotes the word at the end of the line, after a space where words are before it. Answers whether
+/// it is as long as expected.
 fn quotes(line: &mut Line, word: &[u8]) -> bool {
     if line.len() > 64 || word.len() > 64 || quoted_len(word) > 64 {
         return false;

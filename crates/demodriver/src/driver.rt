@@ -163,7 +163,7 @@ fn low_in(value: &str) -> Option<u8> {
     (LOW_LEAST..=LOW_MOST).contains(&low).then_some(low)
 }
 
-/// Whether each word may stand in a status. The empty one has the simulated one reported again.
+/// Whether each word may be in a status. The empty one has the simulated one reported again.
 fn is_status(value: &str) -> bool {
     value.is_empty() || value.split(' ').all(|word| STATUS_WORDS.contains(&word))
 }

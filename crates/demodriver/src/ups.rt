@@ -5,7 +5,8 @@ ghost use Rattle.demodriver.specs.Ups.{new_ups, after_second, after_failure, aft
 /// The charge of a full battery, percent.
 pub const FULL: u8 = 100;
 
-/// What a second without power takes from the charge, and what each second with it gives back, percent.
+/// What a second without power takes from the charge, and what each second with it gives back,
+/// percent.
 pub const STEP: u8 = 5;
 
 /// The charge at which the battery is low, percent, unless it is set: and what it may be set to.

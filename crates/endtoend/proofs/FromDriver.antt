@@ -13,7 +13,7 @@ use Rattle.nutcore.specs.declared.event.Event.{Event}
 use Rattle.nutcore.specs.declared.event.Outcome.{Outcome}
 use Rattle.nutcore.specs.Server.{ServerState}
 use Rattle.nutcore.specs.History.{Execution, of_line, executions}
-use Rattle.nutcore.specs.FreshRuns.{WasFresh, IsToldFresh, WhateverIsToldIsFresh, WhatADriverSetLastIsHeld, changes_since}
+use Rattle.nutcore.specs.FreshRuns.{WasFresh, IsAnsweredFresh, WhateverIsAnsweredIsFresh, WhatADriverSetLastIsHeld, changes_since}
 use Rattle.nutclient.specs.Printed.{Prints}
 use Rattle.endtoend.specs.Served.{IsUsable}
 use Rattle.endtoend.specs.Printed.{UpscPrintsTheVariables, UpscPrintsTheVariable}
@@ -25,10 +25,10 @@ all_at : (P : Execution → Type 0) (before after : List Execution) (x : Executi
 all_at P [] after x all = All-head P x after all
 all_at P (y ∷ before) after x all = all_at P before after x (All-tail P y (before ++ x ∷ after) all)
 
--- so the line of an answer told what was fresh
-module _ (fresh : WhateverIsToldIsFresh) (held : WhatADriverSetLastIsHeld) (old : ServerState) (events : List Event) (outcomes : List Outcome) (s : ServerState) (c : ℕ) (line : List ℕ) where
-  told : (all : All (IsToldFresh old events outcomes) (executions old events outcomes)) (before after : List Execution) → executions old events outcomes ≡ before ++ of_line s c line ∷ after → IsToldFresh old events outcomes (of_line s c line)
-  told all before after is = all_at (IsToldFresh old events outcomes) before after (of_line s c line) (subst (All (IsToldFresh old events outcomes)) is all)
+-- so the line of an answer was fresh
+module _ (fresh : WhateverIsAnsweredIsFresh) (held : WhatADriverSetLastIsHeld) (old : ServerState) (events : List Event) (outcomes : List Outcome) (s : ServerState) (c : ℕ) (line : List ℕ) where
+  told : (all : All (IsAnsweredFresh old events outcomes) (executions old events outcomes)) (before after : List Execution) → executions old events outcomes ≡ before ++ of_line s c line ∷ after → IsAnsweredFresh old events outcomes (of_line s c line)
+  told all before after is = all_at (IsAnsweredFresh old events outcomes) before after (of_line s c line) (subst (All (IsAnsweredFresh old events outcomes)) is all)
 
   usable_then : (ups : List ℕ) (was : WasFresh old events outcomes s c line (Some ups)) → IsUsable s ups was.known
   usable_then ups was = record { asks = record { named = was.named; ready = was.ready }; sound = was.sound }
@@ -54,7 +54,7 @@ with_value tree name value h = by_variable (variable_at tree name) refl h
 shown_by_value : (fsd : Bool) (name value : List ℕ) (v : VariableState) → v.value ≡ value → shown fsd name v ≡ shown fsd name (new_variable value)
 shown_by_value fsd name value v is = ap (λ (w : List ℕ). shown fsd name (new_variable w)) is
 
-pub prints_last : WhateverIsToldIsFresh → WhatADriverSetLastIsHeld → UpscPrintsTheVariable → UpscPrintsWhatTheDriverSetLast
+pub prints_last : WhateverIsAnsweredIsFresh → WhatADriverSetLastIsHeld → UpscPrintsTheVariable → UpscPrintsWhatTheDriverSetLast
 prints_last fresh held prints = λ old events outcomes s c line ups name n m h.
     let at = told fresh held old events outcomes s c line (fresh old h.new events outcomes h.begins h.run) h.executed.0 h.executed.1 h.executed.2 in
     let was = at (commands.GetVar (Some ups) (Some name)) (Some ups) (get_var_read ups name n m line h.asks) refl h.granted in
@@ -66,7 +66,7 @@ prints_last fresh held prints = λ old events outcomes s c line ups name n m h.
           ∙ ap (λ (w : List ℕ). Prints (with_lf w)) (shown_by_value was.known.state.fsd name value has.variable has.is);
     }
 
-pub prints_all_last : WhateverIsToldIsFresh → WhatADriverSetLastIsHeld → UpscPrintsTheVariables → UpscPrintsAllThatTheDriverSetLast
+pub prints_all_last : WhateverIsAnsweredIsFresh → WhatADriverSetLastIsHeld → UpscPrintsTheVariables → UpscPrintsAllThatTheDriverSetLast
 prints_all_last fresh held prints = λ old events outcomes s c line ups n h.
     let at = told fresh held old events outcomes s c line (fresh old h.new events outcomes h.begins h.run) h.executed.0 h.executed.1 h.executed.2 in
     let was = at (commands.ListVar (Some ups)) (Some ups) (list_var_read ups n line h.asks) refl h.granted in

@@ -21,7 +21,7 @@ use Rattle.nutcore.specs.Server.{ServerState, session, with_session, with_sessio
 use Rattle.nutcore.specs.Session.{SessionState}
 use Rattle.nutcore.specs.Reply.{seen, asker, text_to, change_by, changed, changed_session, changed_upses, changed_tracking}
 use Rattle.nutcore.specs.Reply as server
-use Rattle.nutcore.specs.DriverOrders.{told_by_change, told_by_line}
+use Rattle.nutcore.specs.DriverOrders.{given_by_change, given_by_line}
 use Rattle.nutcore.specs.History.{of_line}
 use Rattle.nutrequest.specs.Reply.{Reply, Whole, Bad, reply as client_reply, one_item}
 use Rattle.nutrequest.specs.declared.faults.ClientFault.{ClientFault}
@@ -36,7 +36,7 @@ use Rattle.endtoend.specs.Tracked.{IsOrderedWithId, ATrackedOrderThatIsPrintedIs
 use Rattle.endtoend.proofs.Ids.{WantsId, unwanted_id, missing_id, wanted_id}
 use Rattle.endtoend.proofs.Refused.{refused_read, granted_read}
 
--- a row of an order is answered by an error, or its UPS is there and it is answered by OK, behind which the id stands where the order is tracked
+-- a row of an order is answered by an error, or its UPS is there and it is answered by OK, followed by the id where the order is tracked
 abbrev IsEither : Seen → AskerSeen → Option (List ℕ) → Result Answer ErrWord → Type 0
 IsEither s a ups r = ((word : ErrWord) × (r ≡ Err word)) ⊎ ((known : KnownUps) × (id : Option ℕ) × (ups_named s ups ≡ Some known) × IsIdOfOrder s a id × (text_of_answer r ≡ line_of (ok_words id)))
 
@@ -140,12 +140,12 @@ module _ (s : ServerState) (c : ℕ) (line ups : List ℕ) (command : Command) (
     known = known;
     named = named;
     answered = text_is_of ∙ e;
-    told = λ u. ap (told_by_change u) (change_is_of ∙ gives known named e);
+    given = λ u. ap (given_by_change u) (change_is_of ∙ gives known named e);
     text_is = prints_same text (line_of ok) (sym h ∙ printed_by _ _ e (granted_read request more by_ok));
   }
 
-  nothing_given : is_granted_by_ok request ≡ true → IsEither (seen s) (asker c s) (Some ups) answer → (fault : ClientFault) → prints ≡ Faults fault → (asker c s).tracking ≡ false → (u : UpsId) → told_by_line u (of_line s c line) ≡ []
-  nothing_given by_ok (inl (word, e)) fault h untracked u = ap (told_by_change u) (change_is_of ∙ ap change_of_answer e)
+  nothing_given : is_granted_by_ok request ≡ true → IsEither (seen s) (asker c s) (Some ups) answer → (fault : ClientFault) → prints ≡ Faults fault → (asker c s).tracking ≡ false → (u : UpsId) → given_by_line u (of_line s c line) ≡ []
+  nothing_given by_ok (inl (word, e)) fault h untracked u = ap (given_by_change u) (change_is_of ∙ ap change_of_answer e)
   nothing_given by_ok (inr (known, Some id, named, is, e)) fault h untracked u = absurd (true≢false (sym is.0 ∙ untracked))
   nothing_given by_ok (inr (known, None, named, is, e)) fault h untracked u = absurd (cc (sym (printed_by _ _ e (granted_read request more by_ok)) ∙ h))
 
@@ -168,14 +168,14 @@ module _ (s : ServerState) (c : ℕ) (line ups : List ℕ) (command : Command) (
         named = named;
         first = is.1;
         answered = text_is_of ∙ e;
-        told = λ u. ap (told_by_change u) change;
+        given = λ u. ap (given_by_change u) change;
         kept = tracking_changed (change_by s c (read_command line)) c s ∙ ap (λ (x : Change). changed_tracking x s.tracking) change;
         text_is = prints_same text (line_of (id_text id ∷ [])) (sym h ∙ printed_by _ _ e whole ∙ ap Prints (append-nil (id_text id ++ 10 ∷ [])));
       }
 
-pub orders_given : EachOrderAnsweredOkIsGiven → AnOrderThatIsPrintedIsGiven
+pub orders_printed : EachOrderAnsweredOkIsGiven → AnOrderThatIsPrintedIsGiven
 unfolding answer prints
-orders_given given = record {
+orders_printed given = record {
   set = λ s c line ups name value more asked e.
       let command : Command = commands.SetVar (Some ups) (Some name) (Some value) in
       let either = set_either (seen s) (asker c s) (Some ups) (Some name) (Some value) in

@@ -1,4 +1,4 @@
--- How far a tracked order has come, as the server tells it and as a client prints it.
+-- How far a tracked order has come, as the server answers it and as a client prints it.
 use Rattle.std.proofs.Common.{◌≡◌, ◌∙◌, ℕ, ◌^◌, ◌<◌, ◌≤◌, Bool, true, false, eqb, ltb, List, [], ◌∷◌, ◌++◌, length, append-nil, Option, Some, None, Ok, if◌then◌else◌, refl, ap, subst, arith}
 use Rattle.std.specs.Prelude.{codes, map, option_map, slice_get, ◌==◌}
 use Rattle.std.specs.Fmt.{decimal}
@@ -22,7 +22,7 @@ use Rattle.nuttracking.specs.declared.order.Progress.TheVariants.{Pending, Done}
 use Rattle.nuttracking.specs.declared.order.TrackedOrder.{TrackedOrder}
 use Rattle.nuttracking.proofs.PublicLaws.{ids_are_plain, written_is_read, read_is_written, its_driver_settles_it_once}
 use Rattle.nutlisting.specs.Tracked.{progress_words}
-use Rattle.nutanswer.specs.Answer.{told, text_of_answer}
+use Rattle.nutanswer.specs.Answer.{in_one_line, text_of_answer}
 use Rattle.nutanswer.specs.Checks.{◌>>=◌}
 use Rattle.nutparse.specs.Command.{read_command}
 use Rattle.nutparse.specs.declared.command.Command.TheVariants as commands
@@ -57,10 +57,10 @@ get_tracking_read id small line e =
 
 -- what the server answers
 answered_by : (s : ServerState) (c id : ℕ) (line : List ℕ) (o : Option Progress) → read_command line ≡ Ok (Some (commands.GetProgress (Some id))) → progress_of id s.tracking ≡ o
-    → server.reply s c line ≡ text_of_answer (ok_or (option_map (λ (progress : Progress). (id, progress)) o) InvalidArgument >>= (λ (p : ℕ × Progress). told (codes "TRACKING" ∷ id_text p.0 ∷ progress_words p.1)))
+    → server.reply s c line ≡ text_of_answer (ok_or (option_map (λ (progress : Progress). (id, progress)) o) InvalidArgument >>= (λ (p : ℕ × Progress). in_one_line (codes "TRACKING" ∷ id_text p.0 ∷ progress_words p.1)))
 answered_by s c id line o read is =
     ap (text_to s c) read
-    ∙ ap (λ (o : Option Progress). text_of_answer (ok_or (option_map (λ (progress : Progress). (id, progress)) o) InvalidArgument >>= (λ (p : ℕ × Progress). told (codes "TRACKING" ∷ id_text p.0 ∷ progress_words p.1)))) is
+    ∙ ap (λ (o : Option Progress). text_of_answer (ok_or (option_map (λ (progress : Progress). (id, progress)) o) InvalidArgument >>= (λ (p : ℕ × Progress). in_one_line (codes "TRACKING" ∷ id_text p.0 ∷ progress_words p.1)))) is
 
 number_read : (n : ℕ) → 0 < n → n ≤ 1000000000 → is_some_number (read_natural DONE_LIMIT (decimal n)) ≡ true
 number_read n some few =
@@ -121,7 +121,7 @@ printed_text (Done n) = by_zero (eqb n 0)
     by_zero true = refl
     by_zero false = append-nil (codes "FAILED " ++ (decimal n ++ 10 ∷ []))
 
--- a number that is told is lawful
+-- a number that is answered is lawful
 lawful_found : (id : ℕ) (progress : Progress) (orders : List TrackedOrder) → HaveLawfulNumbers orders → option_map (λ (order : TrackedOrder). order.progress) (find (has_id id) orders) ≡ Some progress → IsLawfulProgress progress
 lawful_found id progress [] all e = cc e
 lawful_found id progress (order ∷ orders) all e =
@@ -134,7 +134,7 @@ lawful_found id progress (order ∷ orders) all e =
 
 pub prints_progress : UpscPrintsHowFarAnOrderHasCome
 prints_progress = record {
-  told = λ s c id text line progress more read lawful is e.
+  known = λ s c id text line progress more read lawful is e.
       let small : id < 2 ^ 128 = ((read_is_written text id).0 read).0 in
       let mine = lawful_found id progress s.tracking.orders lawful is in
       let answer = answered_by s c id line (Some progress) (get_tracking_read id small line e) is in
@@ -164,6 +164,6 @@ pub prints_report : WhatIsTrackedComesOfTheActs → EveryRunKeepsTheServerSound 
 prints_report tracked keeps how_far s left new c line ups text bytes events outcomes client asks more sound o sound_left is run few sent =
     let begun : left.tracking ≡ with_order o.known.id.place s.tracking = is ∙ o.kept in
     let done = acts left events outcomes in
-    how_far.told new client o.id (id_text o.id) asks (first_report o.known.id.place o.id done) more (written_is_read o.id (next_small s.tracking o.id sound.tracking o.first)) (keeps left new events outcomes run sound_left).numbers
+    how_far.known new client o.id (id_text o.id) asks (first_report o.known.id.place o.id done) more (written_is_read o.id (next_small s.tracking o.id sound.tracking o.first)) (keeps left new events outcomes run sound_left).numbers
     (ap (progress_of o.id) (tracked left new events outcomes run ∙ ap (λ (t : TrackingState). after_acts t done) begun)
     ∙ its_driver_settles_it_once s.tracking o.known.id.place o.id done sound.tracking o.first (subst (λ (t : TrackingState). length (given t done) < ORDER_LIMIT) begun few)) sent

@@ -13,7 +13,7 @@ use Rattle.nutrequest.specs.declared.request.Request.TheVariants.{List as ListOf
 use Rattle.nutrequest.specs.Reply.{Reply, Refused, Whole, reply, reply_from, first_of, first_or, expected_of, refusal_of, after_first, one_item}
 use Rattle.nutclient.specs.Requests.{reply_behind, last_reply_after}
 use Rattle.nutclient.specs.Printed.{printed, printed_of}
-use Rattle.endtoend.specs.Refused.{is_granted_by_ok, ARefusalIsTold}
+use Rattle.endtoend.specs.Refused.{is_granted_by_ok, ARefusalEndsTheJob}
 use Rattle.endtoend.proofs.LineReading.{written_line, words_read, line_before}
 
 -- a word that is written as it is, and that a client reads as that of an error
@@ -90,8 +90,8 @@ granted_read request more h =
     let written : IsWrittenLine texts texts = record { written = (as_it_is (omega arith) refl, tt); fits = omega arith } in
     first_read request texts texts more written ∙ granted_by request more h
 
-pub refusal_told : ARefusalIsTold
-refusal_told = record {
+pub refusal_ends : ARefusalEndsTheJob
+refusal_ends = record {
   refused = λ s c line word request requests form more is.
       ap (λ t. printed (request ∷ requests) form (t ++ more)) is
       ∙ ap (λ (r : Reply). printed_of form (reply_behind r (λ items rest. last_reply_after items requests rest))) (refused_read request word more);

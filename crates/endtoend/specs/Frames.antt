@@ -26,7 +26,7 @@ pub record IsItem (query : Query) (item : Item) : Type 0 where
   pub value : has_value query ≡ false → item.value ≡ []
 
 -- A listing of these items, written so that each line reads as its item's words, is read as them,
--- in their order. What stands after it isn't looked at.
+-- in their order. What comes after it isn't looked at.
 abbrev pub AFrameIsReadAsItsItems : Type 0
 AFrameIsReadAsItsItems =
     (query : Query) (written : List (List (List ℕ))) (items : List Item) (more : List ℕ)

@@ -8,30 +8,30 @@ use Rattle.nutanswer.specs.Orders.{set_line, instcmd_line}
 use Rattle.nutcore.specs.Server.{ServerState}
 use Rattle.nutcore.specs.Reply.{seen, asker, reply}
 use Rattle.nutcore.specs.History.{of_line}
-use Rattle.nutcore.specs.DriverOrders.{order, told_by_line}
+use Rattle.nutcore.specs.DriverOrders.{order, given_by_line}
 use Rattle.nutrequest.specs.declared.faults.ClientFault.{ClientFault}
 use Rattle.nutrequest.specs.declared.request.Request.TheVariants.{SetVar, Instcmd}
 use Rattle.nutclient.specs.Printed.{Printed, Prints, Faults, printed}
 use Rattle.nutclient.specs.declared.form.Form.TheVariants as forms
 use Rattle.endtoend.specs.Served.{IsLineOf, IsReadAsAsked}
 
--- The line was answered by OK; it tells the driver of this UPS the order, once, and no other driver
+-- The line was answered by OK. It gives the driver of this UPS the order, once, and no other driver
 -- anything. What was printed is `OK`.
 pub record IsOrdered (s : ServerState) (c : ℕ) (line ups bytes text : List ℕ) : Type 0 where
   pub known : KnownUps
   pub named : ups_named (seen s) (Some ups) ≡ Some known
   pub answered : reply s c line ≡ line_of (codes "OK" ∷ [])
-  pub told : (u : UpsId) → told_by_line u (of_line s c line)
+  pub given : (u : UpsId) → given_by_line u (of_line s c line)
       ≡ (if known.id.place == u.place then order bytes ∷ [] else [])
   pub text_is : text ≡ line_of (codes "OK" ∷ [])
 
 -- What is printed of the answer: where it is a text, the order was given; where it is a fault, and
--- the session's orders aren't tracked, no driver was told anything.
+-- the session's orders aren't tracked, no driver was given anything.
 pub record IsGivenAsPrinted (s : ServerState) (c : ℕ) (line ups bytes : List ℕ) (shown : Printed)
     : Type 0 where
   pub given : (text : List ℕ) → shown ≡ Prints text → IsOrdered s c line ups bytes text
   pub nothing : (fault : ClientFault) → shown ≡ Faults fault → (asker c s).tracking ≡ false
-      → (u : UpsId) → told_by_line u (of_line s c line) ≡ []
+      → (u : UpsId) → given_by_line u (of_line s c line) ≡ []
 
 -- Of the order of `upsrw -s` or `upscmd`, whatever comes after the server's answer.
 pub record AnOrderThatIsPrintedIsGiven : Type 0 where

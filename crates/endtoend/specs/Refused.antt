@@ -13,8 +13,8 @@ use Rattle.nutrequest.specs.declared.request.Request.TheVariants.{TrackedInstcmd
 use Rattle.nutclient.specs.Printed.{Faults, printed}
 use Rattle.nutclient.specs.declared.form.Form.{Form}
 
--- The request is granted by OK alone: a user name, a password, the asking for ids, and orders that
--- aren't tracked are.
+-- OK without an id grants the request: a user name, a password, the asking for ids, and orders that
+-- aren't tracked.
 abbrev pub is_granted_by_ok : Request → Bool
 is_granted_by_ok (ListOf query) = false
 is_granted_by_ok (GetVar ups name) = false
@@ -28,7 +28,7 @@ is_granted_by_ok _ = true
 -- after the answer, nothing is printed, and the job ends with the word of the error. And where a
 -- request that isn't the last is answered by OK, what the others make of the rest decides. So it is
 -- for each request of a job.
-pub record ARefusalIsTold : Type 0 where
+pub record ARefusalEndsTheJob : Type 0 where
   pub refused : (s : ServerState) (c : ℕ) (line : List ℕ) (word : ErrWord) (request : Request)
       (requests : List Request) (form : Form) (more : List ℕ) → reply s c line ≡ error_line word
       → printed (request ∷ requests) form (reply s c line ++ more)

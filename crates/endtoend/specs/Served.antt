@@ -55,7 +55,7 @@ abbrev pub EachRequestIsReadAsAsked : Type 0
 EachRequestIsReadAsAsked =
     (given : Given) → IfSome (job_of given) (λ parts. All IsReadAsAsked parts.1)
 
--- Clients are told what the driver of the UPS of this name has reported. It is sound, as whatever a
+-- Clients get what the driver of the UPS of this name has reported. It is sound, as whatever a
 -- driver's lines have made is.
 pub record IsUsable (s : ServerState) (ups : List ℕ) (known : KnownUps) : Type 0 where
   pub asks : AsksOf s (Some ups) known

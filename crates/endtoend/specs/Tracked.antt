@@ -16,7 +16,7 @@ use Rattle.nutanswer.specs.Orders.{set_line, instcmd_line, ok_words}
 use Rattle.nutparse.specs.declared.err_word.ErrWord.TheVariants.{InvalidArgument}
 use Rattle.nutcore.specs.declared.event.Event.{Event}
 use Rattle.nutcore.specs.declared.event.Outcome.{Outcome}
-use Rattle.nutcore.specs.DriverOrders.{order, told_by_line}
+use Rattle.nutcore.specs.DriverOrders.{order, given_by_line}
 use Rattle.nutcore.specs.History.{of_line}
 use Rattle.nutcore.specs.Reply.{seen, reply, after_change}
 use Rattle.nutcore.specs.Run.{Run}
@@ -30,9 +30,9 @@ use Rattle.nutclient.specs.Printed.{Prints, Faults, printed}
 use Rattle.nutclient.specs.declared.form.Form.TheVariants as forms
 use Rattle.endtoend.specs.Served.{IsLineOf, IsReadAsAsked}
 
--- The line was answered by OK and an id, the first at hand; it tells the driver of this UPS the
--- order with that id, once, and no other driver anything, and the order is kept, pending, with that
--- id. What was printed is the id.
+-- The line was answered by OK and the first available id. It gives the driver of this UPS the order
+-- with that id, once, and no other driver anything. The order is kept, pending, with that id. What
+-- was printed is the id.
 pub record IsOrderedWithId (s : ServerState) (c : ℕ) (line ups : List ℕ) (bytes : ℕ → List ℕ)
     (text : List ℕ) : Type 0 where
   pub known : KnownUps
@@ -40,7 +40,7 @@ pub record IsOrderedWithId (s : ServerState) (c : ℕ) (line ups : List ℕ) (by
   pub named : ups_named (seen s) (Some ups) ≡ Some known
   pub first : next_id s.tracking ≡ Some id
   pub answered : reply s c line ≡ line_of (ok_words (Some id))
-  pub told : (u : UpsId) → told_by_line u (of_line s c line)
+  pub given : (u : UpsId) → given_by_line u (of_line s c line)
       ≡ (if known.id.place == u.place then order (bytes id) ∷ [] else [])
   pub kept : (after_change s c line).tracking ≡ with_order known.id.place s.tracking
   pub text_is : text ≡ line_of (id_text id ∷ [])
@@ -61,12 +61,12 @@ pub record ATrackedOrderThatIsPrintedIsGiven : Type 0 where
       ≡ Prints text
       → IsOrderedWithId s c line ups (λ id. instcmd_line name value (Some id)) text
 
--- `upsc --tracked text`, of a text that is an id. told: how far the order of this id has come is
+-- `upsc --tracked text`, of a text that is an id. known: how far the order of this id has come is
 -- printed, where the order is kept, and the numbers of the kept orders are lawful, as those of
--- every server that events made are. unknown: where no order that is kept has the id, nothing is
--- printed, and the job ends with INVALID-ARGUMENT.
+-- every server that events made are. unknown: where no kept order has the id, nothing is printed,
+-- and the job ends with INVALID-ARGUMENT.
 pub record UpscPrintsHowFarAnOrderHasCome : Type 0 where
-  pub told : (s : ServerState) (client id : ℕ) (text line : List ℕ) (progress : Progress)
+  pub known : (s : ServerState) (client id : ℕ) (text line : List ℕ) (progress : Progress)
       (more : List ℕ) → read_id text ≡ Some id → HaveLawfulNumbers s.tracking.orders
       → progress_of id s.tracking ≡ Some progress → IsLineOf (GetTracking id) line
       → printed (GetTracking id ∷ []) forms.Value (reply s client line ++ more)

@@ -1,8 +1,9 @@
-//! Laws over both ends: the server's `reply` and the client's `printed`, each as its own crate defines it.
+//! Laws over both ends: the server's `reply` and the client's `printed`, each as its own crate
+//! defines it.
 ghost use Rattle.endtoend.specs.Frames.{AFrameIsReadAsItsItems};
 ghost use Rattle.endtoend.specs.Served.{EachRequestIsReadAsAsked};
 ghost use Rattle.endtoend.specs.FromDriver.{UpscPrintsWhatTheDriverSetLast, UpscPrintsAllThatTheDriverSetLast};
-ghost use Rattle.endtoend.specs.Refused.{ARefusalIsTold};
+ghost use Rattle.endtoend.specs.Refused.{ARefusalEndsTheJob};
 ghost use Rattle.endtoend.specs.Ordered.{AnOrderThatIsPrintedIsGiven};
 ghost use Rattle.endtoend.specs.Tracked.{ATrackedOrderThatIsPrintedIsGiven, UpscPrintsHowFarAnOrderHasCome, UpscPrintsWhatItsDriverReported};
 ghost use Rattle.endtoend.specs.OverRuns.{UpscPrintsWhatItTook};
@@ -12,8 +13,8 @@ ghost use Rattle.endtoend.specs.Printed.{UpscPrintsTheVariables, UpscPrintsTheVa
 use nutanswer::laws::each_order_answered_ok_is_given;
 use nutcore::laws::{
     each_is_listed_once, each_run_tracks_its_orders, every_server_is_sound, one_line_is_answered,
-    the_orders_told_are_those_of_the_lines, what_a_driver_set_last_is_held,
-    what_is_counted_is_who_is_there, what_is_listed_is_what_is_held, whatever_is_told_is_fresh,
+    the_orders_given_are_those_of_the_lines, what_a_driver_set_last_is_held,
+    what_is_counted_is_who_is_there, what_is_listed_is_what_is_held, whatever_is_answered_is_fresh,
 };
 
 /// What `upsc`, `upsrw` and `upscmd` send is read by the server as the commands that their words
@@ -45,8 +46,8 @@ pub fn upsc_prints_the_variable()
     what_is_listed_is_what_is_held();
 }
 
-/// `upsc --attached UPS` prints how many sessions are logged in to the UPS, and `upsc -c UPS` exactly
-/// their addresses, in the order of opening.
+/// `upsc --attached UPS` prints how many sessions are logged in to the UPS, and `upsc -c UPS`
+/// exactly their addresses, in the order of opening.
 pub fn upsc_prints_who_is_logged_in()
     ensures number { UpscPrintsHowManyAreLoggedIn }
     ensures addresses { UpscPrintsWhoIsLoggedIn }
@@ -90,7 +91,7 @@ pub fn upsc_prints_what_the_driver_set_last()
     ensures variable { UpscPrintsWhatTheDriverSetLast }
     ensures variables { UpscPrintsAllThatTheDriverSetLast }
 {
-    whatever_is_told_is_fresh();
+    whatever_is_answered_is_fresh();
     what_a_driver_set_last_is_held();
     upsc_prints_the_variable();
     upsc_prints_the_variables();
@@ -98,9 +99,9 @@ pub fn upsc_prints_what_the_driver_set_last()
 
 /// If the server answers a request by `ERR` and a word, the client prints nothing and ends with
 /// that word.
-#[tactic(auto, using(crate::proofs::Refused::refusal_told))]
-pub fn a_refusal_is_told()
-    ensures { ARefusalIsTold }
+#[tactic(auto, using(crate::proofs::Refused::refusal_ends))]
+pub fn a_refusal_ends_the_job()
+    ensures { ARefusalEndsTheJob }
 {}
 
 /// `upsrw -s` and `upscmd` print `OK` exactly if the server gave the order to the driver of that
@@ -134,7 +135,7 @@ pub fn upsc_prints_what_its_driver_reported()
 pub fn a_printed_order_is_given_once()
     ensures { APrintedOrderIsGivenOnce }
 {
-    the_orders_told_are_those_of_the_lines();
+    the_orders_given_are_those_of_the_lines();
 }
 
 /// In a run of any clients and drivers, what the client of `upsc` took is a reply that is printed

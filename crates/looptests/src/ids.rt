@@ -9,8 +9,9 @@ const BYTES: &[u8; 40] =
 /// How many are asked for.
 const ASKED: u32 = 3;
 
-/// Prints the ids that are whole, and none once they are used up, also where a tick has made one more due.
-pub fn tell_ids(rt: &HostRuntime) -> Result<()> {
+/// Prints the ids that are whole, and none once they are used up, also where a tick has made one
+/// more due.
+pub fn print_ids(rt: &HostRuntime) -> Result<()> {
     let mut ids = Ids::new(&BYTES[..]);
     print!(rt; "ids of 40 bytes:")?;
     for _ in 0..ASKED {

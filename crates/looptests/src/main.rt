@@ -1,6 +1,6 @@
-//! Turns of the loop over sockets in memory, with two clients and a driver: once as they are, and then once for each call
-//! of the sockets, which fails. It prints a line for each, and one of ids that are handed in. Then a driver, the server and
-//! upsc run in one process.
+//! Turns of the loop over sockets in memory, with two clients and a driver: once as they are, and
+//! then once for each call of the sockets, which fails. It prints a line for each, and one of ids
+//! that are handed in. Then a driver, the server and upsc run in one process.
 #![tactic(auto)]
 
 mod ids;
@@ -10,7 +10,7 @@ mod run;
 mod scripted;
 mod seen;
 
-use crate::ids::tell_ids;
+use crate::ids::print_ids;
 use crate::one_process::run_in_one_process;
 use crate::rows::{Row, SU, rows};
 use crate::run::{Failing, Part, Ran, run};
@@ -28,9 +28,9 @@ fn main(rt: HostRuntime) -> Result<()> {
 /// The run in which nothing fails, and then one for each call.
 fn run_all(rt: &HostRuntime, rows: &[Row]) -> Result<()> {
     let as_ever = run(rt.alloc(), rows, None)?;
-    tell_as_ever(rt, &as_ever)?;
+    print_as_ever(rt, &as_ever)?;
     fail_each(rt, rows, &as_ever)?;
-    tell_ids(rt)
+    print_ids(rt)
 }
 
 /// A run for each call, which fails.
@@ -45,14 +45,15 @@ fn fail_each(rt: &HostRuntime, rows: &[Row], as_ever: &Ran) -> Result<()> {
     Ok(())
 }
 
-/// The run in which nothing fails. Its driver ends in the middle of a line, after one line that is refused.
-fn tell_as_ever(rt: &HostRuntime, ran: &Ran) -> Result<()> {
+/// The run in which nothing fails. Its driver ends in the middle of a line, after one line that is
+/// refused.
+fn print_as_ever(rt: &HostRuntime, ran: &Ran) -> Result<()> {
     let failed = ran.sockets.failures();
     println!(rt; "nothing fails: {failed} failed calls")?;
     let first = count_taken(rt, ran, 1)?;
     let second = count_taken(rt, ran, 2)?;
     println!(rt; "client 1 takes {first} bytes, and client 2 {second}")?;
-    tell_end_of_driver(rt, ran)
+    print_end_of_driver(rt, ran)
 }
 
 /// How many bytes the client takes.
@@ -61,7 +62,7 @@ fn count_taken(rt: &HostRuntime, ran: &Ran, client: ClientId) -> Result<usize> {
 }
 
 /// What is known of the driver at the end.
-fn tell_end_of_driver(rt: &HostRuntime, ran: &Ran) -> Result<()> {
+fn print_end_of_driver(rt: &HostRuntime, ran: &Ran) -> Result<()> {
     let down = yes(ran.server.driver_connected(SU) == Ok(false));
     let faulty = ran.server.driver_faults(SU)?;
     let shut = shuts(&ran.sockets, Peer::Driver(SU));
@@ -75,12 +76,12 @@ fn tell_end_of_driver(rt: &HostRuntime, ran: &Ran) -> Result<()> {
 fn fail_ready(rt: &HostRuntime, rows: &[Row], turn: usize, as_ever: &Ran) -> Result<()> {
     let part = Part::Ready;
     let ran = run(rt.alloc(), rows, Some(Failing { turn, part }))?;
-    tell_ready(rt, turn, &ran, as_ever)
+    print_ready(rt, turn, &ran, as_ever)
 }
 
-fn tell_ready(rt: &HostRuntime, turn: usize, ran: &Ran, as_ever: &Ran) -> Result<()> {
+fn print_ready(rt: &HostRuntime, turn: usize, ran: &Ran, as_ever: &Ran) -> Result<()> {
     print!(rt; "turn {turn:>2}: ready fails: ")?;
-    tell_fault(rt, ran, as_ever)
+    print_fault(rt, ran, as_ever)
 }
 
 /// What the turn asks after `ready` fails.
@@ -92,10 +93,10 @@ fn fail_answer(
 ) -> Result<()> {
     let part = Part::Answer;
     let ran = run(rt.alloc(), rows, Some(Failing { turn, part }))?;
-    tell_answer(rt, (turn, ready), &ran, as_ever)
+    print_answer(rt, (turn, ready), &ran, as_ever)
 }
 
-fn tell_answer(
+fn print_answer(
     rt: &HostRuntime,
     (turn, ready): (usize, Ready),
     ran: &Ran,
@@ -105,21 +106,21 @@ fn tell_answer(
     match ready {
         Ready::Read(p) => {
             print!(rt; "a read of ")?;
-            tell_loss(rt, p, ran, as_ever)
+            print_loss(rt, p, ran, as_ever)
         }
         Ready::Write(p) => {
             print!(rt; "a write to ")?;
-            tell_loss(rt, p, ran, as_ever)
+            print_loss(rt, p, ran, as_ever)
         }
         _ => {
             print!(rt; "accept fails: ")?;
-            tell_fault(rt, ran, as_ever)
+            print_fault(rt, ran, as_ever)
         }
     }
 }
 
 /// The turn's fault, and whether the server and its peers went on as if nothing had failed.
-fn tell_fault(rt: &HostRuntime, ran: &Ran, as_ever: &Ran) -> Result<()> {
+fn print_fault(rt: &HostRuntime, ran: &Ran, as_ever: &Ran) -> Result<()> {
     let failed = ran.sockets.failures();
     let same = other_calls(rt.alloc(), &ran.sockets)? == other_calls(rt.alloc(), &as_ever.sockets)?;
     let number = ran.faults.first().map_or(0, |fault| fault.number());
@@ -129,12 +130,12 @@ fn tell_fault(rt: &HostRuntime, ran: &Ran, as_ever: &Ran) -> Result<()> {
 }
 
 /// The loss of a peer, and whether the other client was served as ever.
-fn tell_loss(rt: &HostRuntime, p: Peer, ran: &Ran, as_ever: &Ran) -> Result<()> {
+fn print_loss(rt: &HostRuntime, p: Peer, ran: &Ran, as_ever: &Ran) -> Result<()> {
     match p {
         Peer::Client(c) => {
             let gone = ran.server.offered(c).is_err();
             print!(rt; "client {c} fails: ")?;
-            tell_shut(rt, p, gone, ran)?;
+            print_shut(rt, p, gone, ran)?;
             let other = Peer::Client(if c == 1 { 2 } else { 1 });
             let taken = bytes_taken(rt.alloc(), &ran.sockets, other)?;
             let same = yes(taken == bytes_taken(rt.alloc(), &as_ever.sockets, other)?);
@@ -143,7 +144,7 @@ fn tell_loss(rt: &HostRuntime, p: Peer, ran: &Ran, as_ever: &Ran) -> Result<()> 
         Peer::Driver(u) => {
             let down = ran.server.driver_connected(u) == Ok(false);
             print!(rt; "the driver fails: ")?;
-            tell_shut(rt, p, down, ran)?;
+            print_shut(rt, p, down, ran)?;
             println!(rt;)?;
         }
     }
@@ -151,7 +152,7 @@ fn tell_loss(rt: &HostRuntime, p: Peer, ran: &Ran, as_ever: &Ran) -> Result<()> 
 }
 
 /// What became of a peer of which a call failed.
-fn tell_shut(rt: &HostRuntime, p: Peer, is_gone: bool, ran: &Ran) -> Result<()> {
+fn print_shut(rt: &HostRuntime, p: Peer, is_gone: bool, ran: &Ran) -> Result<()> {
     let failed = ran.sockets.failures();
     let is_ok = yes(ran.faults.is_empty());
     let at_once = yes(ran.shut_behind == Some(p));

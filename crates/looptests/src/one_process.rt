@@ -1,5 +1,6 @@
-//! A driver, the server and upsc in one thread, over the system's sockets: the driver over a Unix socket, and the client
-//! over TCP at a port that the system gives. It prints what upsc prints, and whether that took few turns.
+//! A driver, the server and upsc in one thread, over the system's sockets: the driver over a Unix
+//! socket, and the client over TCP at a port that the system gives. It prints what upsc prints, and
+//! whether that took few turns.
 
 mod client;
 mod driver;
@@ -37,14 +38,14 @@ fn run(rt: &HostRuntime) -> Result<()> {
 fn ask(rt: &HostRuntime, served: &mut Served<'_>) -> Result<()> {
     for _ in 0..TURN_LIMIT {
         if print_variables(rt, served)? {
-            return tell_turns(rt, served);
+            return print_turns(rt, served);
         }
     }
     Err(Error::msg("the server refused the client to the end"))
 }
 
-/// Tells that the turns were few. Without that there is no line, since no turn is above the limit.
-fn tell_turns(rt: &HostRuntime, served: &Served<'_>) -> Result<()> {
+/// Prints that the turns were few. Without that there is no line, since no turn is above the limit.
+fn print_turns(rt: &HostRuntime, served: &Served<'_>) -> Result<()> {
     let is_few = if served.turns() <= TURN_LIMIT {
         "yes"
     } else {

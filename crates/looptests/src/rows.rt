@@ -21,7 +21,7 @@ const ALL: usize = usize::MAX;
 const REPORT: &str =
     "SETINFO ups.status \"OL\"\nSETINFO battery.charge \"100\"\nDUMPDONE\nDATAOK\n";
 
-/// What it tells last.
+/// What it reports last.
 const LAST_WORDS: &str = "PONG\nNO SUCH LINE\nSETINFO ups";
 
 /// What is answered to the call after `ready`.
@@ -80,7 +80,7 @@ fn asking() -> [Row; 7] {
     ]
 }
 
-/// The driver is pinged, and tells a line that is refused.
+/// The driver is pinged, and sends a line that is refused.
 fn going_on() -> [Row; 6] {
     [
         (Ready::Tick(5), Reply::Unasked),

@@ -34,8 +34,8 @@ pub struct Ran {
     pub shut_behind: Option<Peer>,
 }
 
-/// The turns of the table, where this call fails. Of a peer that is lost by it nothing more is ready; a turn that fails is
-/// done once more.
+/// The turns of the table, where this call fails. Of a peer that is lost by it nothing more is
+/// ready; a turn that fails is done once more.
 pub fn run(alloc: Global, rows: &[Row], failing: Option<Failing>) -> Result<Ran> {
     let Script { acts, turns } = script_of(alloc, rows, failing)?;
     let mut ran = Ran {

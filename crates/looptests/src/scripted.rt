@@ -2,7 +2,7 @@
 ghost use Rattle.std.specs.Prelude.{◌≡◌, ◌∷◌, []};
 ghost use Rattle.std.specs.Option.{option_map};
 ghost use Rattle.nutio.specs.Ends.{counted};
-ghost use Rattle.nutloop.specs.Sockets.{Grows, nothing_told};
+ghost use Rattle.nutloop.specs.Sockets.{Grows, nothing_reported};
 
 use nutcore::{Bytes, ClientId, Event, Peer, Server};
 use nutloop::{Broken, Call, Got, Ready, Sockets};
@@ -64,9 +64,9 @@ impl Scripted {
     }
 
     fn keep(&mut self, call: Call)
-        ensures told { Grows
-            (record nothing_told { answered = option_map (λ calls. calls.items) self.old.calls })
-            (record nothing_told { answered = option_map (λ calls. calls.items) self.new.calls })
+        ensures reported { Grows
+            (record nothing_reported { answered = option_map (λ calls. calls.items) self.old.calls })
+            (record nothing_reported { answered = option_map (λ calls. calls.items) self.new.calls })
             (call ∷ []) }
         ensures count { self.new.failures ≡ self.old.failures }
     {
@@ -95,7 +95,7 @@ impl Scripted {
 }
 
 impl Sockets for Scripted {
-    ghost calls = { λ s. record nothing_told { answered = option_map (λ calls. calls.items) s.calls } };
+    ghost calls = { λ s. record nothing_reported { answered = option_map (λ calls. calls.items) s.calls } };
 
     ghost failures = { λ s. s.failures };
 

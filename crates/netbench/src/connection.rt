@@ -93,8 +93,8 @@ impl Connection {
         self.take_answers(1)
     }
 
-    /// Reads a listing, and answers how many bytes it has. Its end is looked for at the ends of
-    /// pieces alone.
+    /// Reads a listing, and answers how many bytes it has. It looks for the end only at the ends of
+    /// pieces.
     pub fn take_listing(&mut self, server: &Server) -> io::Result<usize> {
         let mut length = 0usize;
         let mut tail = Vec::new(server.alloc);

@@ -1,6 +1,6 @@
-//! Measures a UPS server over the network, by the protocol alone: requests and listings a second,
-//! and how long a good client waits, alone and beside slow ones. With a third word it measures how
-//! long a client waits that is alone, and no more: `flood.py` beside it is the driver of that UPS,
+//! Measures a UPS server over the network, by nothing but the protocol: requests and listings a
+//! second, and how long a good client waits, by itself and beside slow ones. With a third word it
+//! measures only how long a client waits by itself. `flood.py` beside it is the driver of that UPS,
 //! and never pauses.
 #![tactic(auto)]
 
@@ -76,28 +76,28 @@ fn requests_of(
     println!(rt; "GET VAR   {connections:>3} connections, {depth:>3} at once: {rate:>9} a second")
 }
 
-/// LIST VAR on fresh connections, and on one that stands.
+/// LIST VAR on fresh connections, and on one that stays.
 fn listings(rt: &HostRuntime, server: &Server) -> io::Result<()> {
     let start = Instant::now(rt)?;
     let bytes = lists_anew(rt, server, LISTINGS)?;
-    tell_listings(rt, "fresh connections:", bytes, start.elapsed(rt)?)?;
+    print_listings(rt, "fresh connections:", bytes, start.elapsed(rt)?)?;
     let mut client = server.connect(rt)?;
     let start = Instant::now(rt)?;
     let bytes = lists(&mut client, server, LISTINGS)?;
-    tell_listings(rt, "one connection:   ", bytes, start.elapsed(rt)?)?;
+    print_listings(rt, "one connection:   ", bytes, start.elapsed(rt)?)?;
     client.leave()
 }
 
-fn tell_listings(rt: &HostRuntime, kind: &str, bytes: usize, time: Duration) -> io::Result<()> {
+fn print_listings(rt: &HostRuntime, kind: &str, bytes: usize, time: Duration) -> io::Result<()> {
     let rate = a_second(LISTINGS, time);
     let kilobytes = a_second(bytes / 1000, time);
     println!(rt; "LIST VAR  {kind} {rate:>9} a second, {kilobytes:>9} KB a second")
 }
 
-/// The waits of a client that is alone.
+/// The waits of a client by itself.
 fn client_alone(rt: &HostRuntime, server: &Server) -> io::Result<()> {
     let mut client = server.connect(rt)?;
-    tell_waits(
+    print_waits(
         rt,
         "alone:         ",
         waits_of(rt, &mut client, server, WAITS)?,
@@ -108,14 +108,14 @@ fn client_alone(rt: &HostRuntime, server: &Server) -> io::Result<()> {
 fn client_beside_slow(rt: &HostRuntime, server: &Server) -> io::Result<()> {
     let mut good = server.connect(rt)?;
     let _slow = slow_readers(rt, server, MANY - 1, UNDRAINED)?;
-    tell_waits(
+    print_waits(
         rt,
         "beside 63 slow:",
         waits_of(rt, &mut good, server, WAITS)?,
     )
 }
 
-fn tell_waits(rt: &HostRuntime, kind: &str, waits: Waits) -> io::Result<()> {
+fn print_waits(rt: &HostRuntime, kind: &str, waits: Waits) -> io::Result<()> {
     let Waits {
         middle,
         high,

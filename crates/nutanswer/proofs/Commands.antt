@@ -1,4 +1,4 @@
--- What is proved of each command, a case each: what its row says, and that what it tells is fresh.
+-- What is proved of each command, a case each: what its row says, and that the data it answers are fresh.
 use Rattle.std.proofs.Common.{◌≡◌, ◌≤◌, ℕ, true, List, [], ◌∷◌, Option, Some, None, Result, Ok, Err, refl, ap, ◌&&◌, length, inl, inr, arith}
 use Rattle.std.specs.Prelude.{codes, IsTrue}
 use Rattle.std.proofs.lemmas.Bool.{leb-true}
@@ -20,7 +20,7 @@ use Rattle.nutanswer.specs.Checks.{◌>>=◌, ◌>>◌, KnownUps, ups_named, use
 use Rattle.nutanswer.specs.Orders.{is_short_enough, is_listed, is_in_ranges, right_to, set_line, instcmd_line, order, ok_words, instcmd_right}
 use Rattle.nutanswer.specs.Answer.{Answer, one_line, ok, description_at, answer_to, change_of_answer, text_of_answer}
 use Rattle.nutanswer.specs.Rows.{HasRight, value_given, IsIdOfOrder, EachChangeComesOfItsCommand, EachOrderAnsweredOkIsGiven}
-use Rattle.nutanswer.specs.Laws.{OnlyOkChanges, RefusedLinesChangeNothing, EachAnswerIsALineOrAListing, WhatIsToldIsFresh}
+use Rattle.nutanswer.specs.Laws.{OnlyOkChanges, RefusedLinesChangeNothing, EachAnswerIsALineOrAListing, WhatIsAnsweredIsFresh}
 use Rattle.nutwords.specs.Reading.{is_value, is_name, is_address}
 use Rattle.std.proofs.lemmas.List.Elements.{All-filter}
 use Rattle.nutdriver.specs.Sound.{IsSoundRange}
@@ -212,13 +212,13 @@ module _ (s : Seen) (asker : AskerSeen) (u known : KnownUps) (same : u ≡ known
   untracked None e = cc
   untracked (Some id) e = cc e
 
-  -- OK and the first id at hand
+  -- OK and the first available id
   tracked : (id : ℕ) → next_id s.tracking ≡ Some id → (used : Option ℕ) → IsIdOfOrder s asker used
       → OrdersIfOk (ok_words (Some id)) (order known.id (line (Some id)) (Some id)) (Ok (one_line (ok_words used) (order u.id (line used) used)))
   tracked id next None is e = cc e
   tracked id next (Some used) is e = cc (same, is.1, next)
 
--- and no error is told so
+-- and no error is such a line
 abbrev first_of : List ℕ → ℕ
 first_of [] = 0
 first_of (b ∷ bytes) = b
@@ -242,17 +242,17 @@ ok_orders = record {
       (λ u used right found going there id_is fits. tracked s asker u known (one_ups (ups_named s ups) u known found named) (λ id. instcmd_line name value id) id next used id_is);
 }
 
--- what is told of the data of a UPS is fresh
-pub told_fresh : WhatIsToldIsFresh
-told_fresh s asker (SetVar ups name value) other answer h e =
-    fresh.moved s ups other _ h (checks.held (fresh.TellsFresh s ups) (fresh.no_answer s ups) (user s asker rights.Set) _ (λ right. fresh.row s ups _)) answer e
-told_fresh s asker (InstCmd ups name value) other answer h e =
-    fresh.moved s ups other _ h (checks.held (fresh.TellsFresh s ups) (fresh.no_answer s ups) (user s asker (instcmd_right name)) _ (λ right. fresh.row s ups _)) answer e
-told_fresh s asker (GetVar ups name) other answer h e = fresh.moved s ups other _ h (fresh.row s ups _) answer e
-told_fresh s asker (GetType ups name) other answer h e = fresh.moved s ups other _ h (fresh.row s ups _) answer e
-told_fresh s asker (ListVar ups) other answer h e = fresh.moved s ups other _ h (fresh.row s ups _) answer e
-told_fresh s asker (ListRw ups) other answer h e = fresh.moved s ups other _ h (fresh.row s ups _) answer e
-told_fresh s asker (ListCmd ups) other answer h e = fresh.moved s ups other _ h (fresh.row s ups _) answer e
-told_fresh s asker (ListEnum ups name) other answer h e = fresh.moved s ups other _ h (fresh.row s ups _) answer e
-told_fresh s asker (ListRange ups name) other answer h e = fresh.moved s ups other _ h (fresh.row s ups _) answer e
-told_fresh s asker command other answer h e = cc h
+-- the data of a UPS that are answered are fresh
+pub answered_fresh : WhatIsAnsweredIsFresh
+answered_fresh s asker (SetVar ups name value) other answer h e =
+    fresh.moved s ups other _ h (checks.held (fresh.AnswersFresh s ups) (fresh.no_answer s ups) (user s asker rights.Set) _ (λ right. fresh.row s ups _)) answer e
+answered_fresh s asker (InstCmd ups name value) other answer h e =
+    fresh.moved s ups other _ h (checks.held (fresh.AnswersFresh s ups) (fresh.no_answer s ups) (user s asker (instcmd_right name)) _ (λ right. fresh.row s ups _)) answer e
+answered_fresh s asker (GetVar ups name) other answer h e = fresh.moved s ups other _ h (fresh.row s ups _) answer e
+answered_fresh s asker (GetType ups name) other answer h e = fresh.moved s ups other _ h (fresh.row s ups _) answer e
+answered_fresh s asker (ListVar ups) other answer h e = fresh.moved s ups other _ h (fresh.row s ups _) answer e
+answered_fresh s asker (ListRw ups) other answer h e = fresh.moved s ups other _ h (fresh.row s ups _) answer e
+answered_fresh s asker (ListCmd ups) other answer h e = fresh.moved s ups other _ h (fresh.row s ups _) answer e
+answered_fresh s asker (ListEnum ups name) other answer h e = fresh.moved s ups other _ h (fresh.row s ups _) answer e
+answered_fresh s asker (ListRange ups name) other answer h e = fresh.moved s ups other _ h (fresh.row s ups _) answer e
+answered_fresh s asker command other answer h e = cc h

@@ -1,4 +1,4 @@
--- What is told of a UPS's data is fresh.
+-- The data of a UPS that are answered are fresh.
 use Rattle.std.proofs.Common.{◌≡◌, ◌≤◌, ◌-◌, ℕ, Bool, true, false, List, Option, Some, Result, Ok, Err, refl, subst, cond, not, ltb, ◌||◌, arith}
 use Rattle.std.proofs.lemmas.Bool.Decides.{nat_tests}
 use Rattle.nutdriver.specs.declared.report.Report.{Report}
@@ -29,19 +29,19 @@ usable_is moment max_age x h = by x.connected x.dumped x.ok (ltb max_age (moment
 
 module _ (s : Seen) (ups : Option (List ℕ)) where
   -- whatever is answered, the UPS is there and fresh
-  abbrev pub TellsFresh : Result Answer ErrWord → Type 0
-  TellsFresh r = (answer : Answer) → r ≡ Ok answer → (known : KnownUps) × (ups_named s ups ≡ Some known) × IsFresh s known
+  abbrev pub AnswersFresh : Result Answer ErrWord → Type 0
+  AnswersFresh r = (answer : Answer) → r ≡ Ok answer → (known : KnownUps) × (ups_named s ups ≡ Some known) × IsFresh s known
 
-  pub no_answer : (word : ErrWord) → TellsFresh (Err word)
+  pub no_answer : (word : ErrWord) → AnswersFresh (Err word)
   no_answer word answer e = cc e
 
-  fresh : (u : KnownUps) (r : Result Answer ErrWord) → ups_named s ups ≡ Some u → readiness s.moment s.max_age u.state.report ≡ usable → TellsFresh r
+  fresh : (u : KnownUps) (r : Result Answer ErrWord) → ups_named s ups ≡ Some u → readiness s.moment s.max_age u.state.report ≡ usable → AnswersFresh r
   fresh u r named going answer e =
       let is = usable_is s.moment s.max_age u.state.report going in
       (u, named, record { connected = is.connected; dumped = is.dumped; ok = is.ok; heard = is.heard })
 
-  pub row : (next : KnownUps → Result Answer ErrWord) → TellsFresh (unknown_ups s ups >>= (λ u. live s u >> next u))
-  row next = of_usable TellsFresh no_answer s ups next (λ u named going. fresh u (next u) named going)
+  pub row : (next : KnownUps → Result Answer ErrWord) → AnswersFresh (unknown_ups s ups >>= (λ u. live s u >> next u))
+  row next = of_usable AnswersFresh no_answer s ups next (λ u named going. fresh u (next u) named going)
 
-pub moved : (s : Seen) (ups other : Option (List ℕ)) (r : Result Answer ErrWord) → Some ups ≡ Some other → TellsFresh s ups r → TellsFresh s other r
-moved s ups other r h tells = subst (λ (o : Option (List ℕ)). TellsFresh s o r) (cc h) tells
+pub moved : (s : Seen) (ups other : Option (List ℕ)) (r : Result Answer ErrWord) → Some ups ≡ Some other → AnswersFresh s ups r → AnswersFresh s other r
+moved s ups other r h tells = subst (λ (o : Option (List ℕ)). AnswersFresh s o r) (cc h) tells

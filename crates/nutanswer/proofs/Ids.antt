@@ -7,7 +7,7 @@ use Rattle.nutlisting.specs.Lines.{IsWholeLine}
 use Rattle.nutlisting.proofs.PublicLaws.{ids_are_lawful}
 use Rattle.nutanswer.specs.Orders.{ok_words}
 
--- two texts behind one another
+-- two texts one after another
 module _ (items front back : List ℕ) (n : ℕ) (long : n ≡ length front) (is : items ≡ front ++ back) where
   pub front_of : take n items ≡ front
   front_of = rw (long, is) (take-append_seam front back)

@@ -50,7 +50,7 @@ progress_plain Pending h = (refl, tt)
 progress_plain (Done number) h =
     cond_both (number == 0) (codes "SUCCESS" ∷ []) (codes "FAILED" ∷ decimal number ∷ []) ArePlain (λ e. (refl, tt)) (λ e. (refl, (texts_are_lawful.decimals number (omega (arith, h)), tt)))
 
--- the words of an id behind an order
+-- the words of an id after an order
 tracking : IsLawfulText 8 (codes "TRACKING")
 tracking = record { short = omega arith; lawful = refl }
 

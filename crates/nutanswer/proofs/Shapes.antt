@@ -1,4 +1,4 @@
--- Answers that are one line, which begins no listing, or a listing to its END; what is told of a UPS that is lawful.
+-- Answers that are one line, which begins no listing, or a listing to its END; what is answered of a UPS that is lawful.
 use Rattle.std.proofs.Common.{◌≡◌, ◌<◌, ◌^◌, ℕ, Bool, true, false, List, [], ◌∷◌, ◌++◌, Option, Some, None, Result, Ok, Err, refl, sym, ap, subst, arith}
 use Rattle.std.specs.Prelude.{codes, map, filter, slice_get, All, IsTrue, IfSome}
 use Rattle.std.specs.Fmt.{decimal, signed_decimal}
@@ -67,7 +67,7 @@ module _ {X : Type 0} (P : X → Type 0) (item : X → List (List ℕ)) where
   items_of each [] all = tt
   items_of each (x ∷ xs) all = (each x (All-head P x xs all), items_of each xs (All-tail P x xs all))
 
--- a line alone
+-- a single line
 pub line_shaped : (words : List (List ℕ)) → ArePlain words → begins_listing (join_with_byte 32 words) ≡ false → IsAnswer (line_of words)
 line_shaped words plain alone = one_line_alone (join_with_byte 32 words) (lawful_words_are_a_line.joined words plain) alone
 

@@ -13,7 +13,7 @@ use Rattle.nutanswer.specs.declared.reply.Change.TheVariants.{Nothing}
 use Rattle.nutanswer.specs.View.{Seen, AskerSeen}
 use Rattle.nutanswer.specs.Checks.{◌>>=◌, ◌>>◌, KnownUps, ups_named, unknown_ups, live, var_not_supported}
 use Rattle.nutanswer.specs.Orders.{order, ok_words}
-use Rattle.nutanswer.specs.Answer.{Answer, one_line, listing, listing_of_clients, told, answer_to, change_of_answer, text_of_answer}
+use Rattle.nutanswer.specs.Answer.{Answer, one_line, listing, listing_of_clients, in_one_line, answer_to, change_of_answer, text_of_answer}
 use Rattle.nutparse.specs.Command.{IsLawfulCommand}
 use Rattle.nutanswer.specs.Laws.{IsLawfulSeen, begins_with_ok, is_ok_line}
 use Rattle.nutanswer.specs.Rows.{IsSet, IsInstCmd, ComesOf}
@@ -27,11 +27,11 @@ pub record IsRow (s : Seen) (asker : AskerSeen) (command : Command) (answer : Re
   pub shape : IsLawfulSeen s → IsLawfulCommand command → IsShaped answer
 
 module _ {s : Seen} {asker : AskerSeen} {command : Command} where
-  -- what changes nothing: an error, a line that tells, a listing
+  -- what changes nothing: an error, a line, a listing
   pub refused : (word : ErrWord) → IsRow s asker command (Err word)
   refused word = record { comes = λ e. tt; by_ok = λ e. refl; shape = λ seen h. refused_shaped word }
 
-  pub tells : (words : List (List ℕ)) → begins_listing (join_with_byte 32 words) ≡ false → (IsLawfulSeen s → IsLawfulCommand command → ArePlain words) → IsRow s asker command (told words)
+  pub tells : (words : List (List ℕ)) → begins_listing (join_with_byte 32 words) ≡ false → (IsLawfulSeen s → IsLawfulCommand command → ArePlain words) → IsRow s asker command (in_one_line words)
   tells words alone plain = record { comes = λ e. tt; by_ok = λ e. refl; shape = λ seen h. line_shaped words (plain seen h) alone }
 
   pub lists : (l : ListingState) → (IsLawfulSeen s → IsLawfulCommand command → IsAnswer (text_of l)) → IsRow s asker command (Ok (listing l))
@@ -51,7 +51,7 @@ module _ {s : Seen} {asker : AskerSeen} {command : Command} where
   orders u line None comes = does (ok_words None) (order u line None) refl ok_shaped comes
   orders u line (Some id) comes = does (ok_words (Some id)) (order u line (Some id)) refl (order_shaped (Some id)) comes
 
-  -- what a row says behind its checks, it says
+  -- what a row says after its checks, it says
   pub held : (r : Result (Unit {0}) ErrWord) {next : Result Answer ErrWord} → (r ≡ Ok tt → IsRow s asker command next) → IsRow s asker command (r >> next)
   held r {next} h = checks.held (IsRow s asker command) refused r next h
 

@@ -52,8 +52,8 @@ pub data Answer : Type 0 where
   listing_of_clients : (l : ListingState) → Answer
 
 -- A line of a command that changes nothing.
-abbrev pub told : List (List ℕ) → Result Answer ErrWord
-told words = Ok (one_line words changes.Nothing)
+abbrev pub in_one_line : List (List ℕ) → Result Answer ErrWord
+in_one_line words = Ok (one_line words changes.Nothing)
 
 -- The bare OK.
 abbrev pub ok : List (List ℕ)
@@ -66,7 +66,7 @@ help_text = codes "Commands: HELP VER NETVER PROTVER GET LIST SET INSTCMD LOGIN 
 abbrev pub count_of_logins : List ℕ → Seen → Option (List ℕ) → Result Answer ErrWord
 count_of_logins kind s ups = do
   u ← unknown_ups s ups
-  told (kind ∷ u.name ∷ decimal (login_count u.id s.clients) ∷ [])
+  in_one_line (kind ∷ u.name ∷ decimal (login_count u.id s.clients) ∷ [])
 
 -- The description of a UPS of the list, if it has one.
 abbrev pub description_at : Seen → UpsId → Option (List ℕ)
@@ -91,7 +91,7 @@ answer_to s asker Logout = Ok (one_line (codes "OK" ∷ codes "Goodbye" ∷ []) 
 answer_to s asker (Primary ups) = do
   user s asker rights.Primary
   _ ← unknown_ups s ups
-  told ok
+  in_one_line ok
 answer_to s asker (Fsd ups) = do
   user s asker rights.Fsd
   u ← unknown_ups s ups
@@ -121,29 +121,31 @@ answer_to s asker (GetVar ups name) = do
   u ← unknown_ups s ups
   live s u
   (v, x) ← var_not_supported u name
-  told (codes "VAR" ∷ u.name ∷ v ∷ quoted (shown u.state.fsd v x) ∷ [])
+  in_one_line (codes "VAR" ∷ u.name ∷ v ∷ quoted (shown u.state.fsd v x) ∷ [])
 answer_to s asker (GetType ups name) = do
   u ← unknown_ups s ups
   live s u
   (v, x) ← var_not_supported u name
-  told (codes "TYPE" ∷ u.name ∷ v ∷ type_words x)
+  in_one_line (codes "TYPE" ∷ u.name ∷ v ∷ type_words x)
 answer_to s asker (GetDesc ups name) = do
   u ← unknown_ups s ups
   v ← var_not_lawful name
-  told (codes "DESC" ∷ u.name ∷ v ∷ quoted (description_of (text_at s.descriptions.vars v)) ∷ [])
+  in_one_line (codes "DESC" ∷ u.name ∷ v
+      ∷ quoted (description_of (text_at s.descriptions.vars v)) ∷ [])
 answer_to s asker (GetCmdDesc ups name) = do
   u ← unknown_ups s ups
   c ← cmd_not_lawful name
-  told (codes "CMDDESC" ∷ u.name ∷ c ∷ quoted (description_of (text_at s.descriptions.cmds c)) ∷ [])
+  in_one_line (codes "CMDDESC" ∷ u.name ∷ c
+      ∷ quoted (description_of (text_at s.descriptions.cmds c)) ∷ [])
 answer_to s asker (GetUpsDesc ups) = do
   u ← unknown_ups s ups
-  told (codes "UPSDESC" ∷ u.name ∷ quoted (text_or_unavailable (description_at s u.id)) ∷ [])
+  in_one_line (codes "UPSDESC" ∷ u.name ∷ quoted (text_or_unavailable (description_at s u.id)) ∷ [])
 answer_to s asker (GetNumLogins ups) = count_of_logins (codes "NUMLOGINS") s ups
 answer_to s asker (GetNumAttach ups) = count_of_logins (codes "NUMATTACH") s ups
-answer_to s asker GetTracking = told (codes "TRACKING" ∷ on_or_off_word asker.tracking ∷ [])
+answer_to s asker GetTracking = in_one_line (codes "TRACKING" ∷ on_or_off_word asker.tracking ∷ [])
 answer_to s asker (GetProgress id) = do
   (i, progress) ← unknown_id s id
-  told (codes "TRACKING" ∷ id_text i ∷ progress_words progress)
+  in_one_line (codes "TRACKING" ∷ id_text i ∷ progress_words progress)
 answer_to s asker ListUps = Ok (listing (ups_listing s.list))
 answer_to s asker (ListVar ups) = do
   u ← unknown_ups s ups
@@ -170,10 +172,10 @@ answer_to s asker (ListRange ups name) = do
 answer_to s asker (ListClient ups) = do
   u ← unknown_ups s ups
   Ok (listing_of_clients (client_listing u.name (addresses_at u.id s.clients)))
-answer_to s asker Help = told (help_text ∷ [])
-answer_to s asker Ver = told (codes "Network UPS Tools upsd, profile 1" ∷ [])
-answer_to s asker NetVer = told (codes "1.3" ∷ [])
-answer_to s asker ProtVer = told (codes "1.3" ∷ [])
+answer_to s asker Help = in_one_line (help_text ∷ [])
+answer_to s asker Ver = in_one_line (codes "Network UPS Tools upsd, profile 1" ∷ [])
+answer_to s asker NetVer = in_one_line (codes "1.3" ∷ [])
+answer_to s asker ProtVer = in_one_line (codes "1.3" ∷ [])
 answer_to s asker StartTls = Err FeatureNotConfigured
 
 -- The whole text of an answer.

@@ -40,15 +40,15 @@ RefusedLinesChangeNothing =
     (s : Seen) (asker : AskerSeen) (command : Command) (word : ErrWord)
     → answer_to s asker command ≡ Err word → change_of_answer (answer_to s asker command) ≡ Nothing
 
--- What isn't answered by a line of OK changes nothing: refusals, what is told, and listings.
+-- What isn't answered by a line of OK changes nothing: refusals, data, and listings.
 abbrev pub OnlyOkChanges : Type 0
 OnlyOkChanges =
     (s : Seen) (asker : AskerSeen) (command : Command)
     → is_ok_line (answer_to s asker command) ≡ false
     → change_of_answer (answer_to s asker command) ≡ Nothing
 
--- The UPS has this name, and stands at the place of its name in the list, and at the same among
--- those seen.
+-- The UPS has this name, and is at the place of its name in the list, and at the same among those
+-- seen.
 pub record IsSeen (s : Seen) (ups : Option (List ℕ)) (u : KnownUps) : Type 0 where
   pub name_is : ups ≡ Some u.name
   pub in_list : place_of u.name s.list ≡ Some u.id.place
@@ -116,8 +116,8 @@ pub record IsFresh (s : Seen) (u : KnownUps) : Type 0 where
   pub heard : s.moment - u.state.report.heard ≤ s.max_age
 
 -- Where such a command isn't refused, its UPS is there, and fresh.
-abbrev pub WhatIsToldIsFresh : Type 0
-WhatIsToldIsFresh =
+abbrev pub WhatIsAnsweredIsFresh : Type 0
+WhatIsAnsweredIsFresh =
     (s : Seen) (asker : AskerSeen) (command : Command) (ups : Option (List ℕ)) (answer : Answer)
     → asks_data_of command ≡ Some ups → answer_to s asker command ≡ Ok answer
     → (known : KnownUps) × (ups_named s ups ≡ Some known) × IsFresh s known

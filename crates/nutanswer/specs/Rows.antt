@@ -59,8 +59,7 @@ abbrev pub IsShutdown : Seen → AskerSeen → Command → UpsId → Type 0
 IsShutdown s asker command u =
     IsByRight s asker command commands.Fsd rights.Fsd (codes "OK" ∷ codes "FSD-SET" ∷ []) u
 
--- The id of an order: none where its session's orders aren't tracked, else the first of those at
--- hand.
+-- The id of an order: none where its session's orders aren't tracked, else the first available one.
 abbrev pub IsIdOfOrder : Seen → AskerSeen → Option ℕ → Type 0
 IsIdOfOrder s asker None = asker.tracking ≡ false
 IsIdOfOrder s asker (Some id) = (asker.tracking ≡ true) × (next_id s.tracking ≡ Some id)
@@ -129,8 +128,8 @@ EachChangeComesOfItsCommand =
     (s : Seen) (asker : AskerSeen) (command : Command)
     → ComesOf s asker command (change_of_answer (answer_to s asker command))
 
--- An order that OK answers is given to the driver of its UPS. Where OK TRACKING and the first id at
--- hand answer it, it is given with that id.
+-- An order that OK answers is given to the driver of its UPS. Where OK TRACKING and the first
+-- available id answer it, it is given with that id.
 pub record EachOrderAnsweredOkIsGiven : Type 0 where
   pub set : (s : Seen) (asker : AskerSeen) (ups : Option (List ℕ)) (name value : List ℕ)
       (known : KnownUps)

@@ -6,7 +6,7 @@ ghost use Rattle.nutwords.specs.Frame.{line_of};
 ghost use Rattle.nutlisting.specs.Lines.{IsWholeLine};
 ghost use Rattle.nutlisting.specs.declared.lines.TheConstants.{KIND_LIMIT};
 ghost use Rattle.nutanswer.specs.View.{Seen, asker_seen};
-ghost use Rattle.nutanswer.specs.Answer.{answer_to, shares_version, told, count_of_logins, one_line, ok, Answer, IsReply};
+ghost use Rattle.nutanswer.specs.Answer.{answer_to, shares_version, in_one_line, count_of_logins, one_line, ok, Answer, IsReply};
 ghost use Rattle.nutanswer.specs.Promises.{CarriesAnswer, Gives, GivesLine, GivesListing, row};
 ghost use Rattle.nutparse.specs.declared.command.Command.TheVariants.{GetVar, GetType, GetDesc, GetCmdDesc, GetUpsDesc, ListUps, ListVar, ListRw, ListCmd, ListEnum, ListRange};
 
@@ -31,8 +31,8 @@ type Made = Checked<()>;
 /// The listing of a row, where memory isn't refused, or the word of its error.
 type Listed = Checked<Result<Listing, AllocError>>;
 
-/// The answer to a command of this session, on the server as the view shows it. The line that it needs is made in
-/// `line`, in place of what that held.
+/// The answer to a command of this session, on the server as the view shows it. The line that it
+/// needs is made in `line`, in place of what that held.
 ///
 /// # Errors
 ///
@@ -50,7 +50,8 @@ pub fn answer<'a, P: Peers>(
         (IsTrue (shares_version
         (answer_to view.now (asker_seen asker.entry) command.now))) }
 {
-    // A listing shares a version, for which memory may be refused; each other row is answered by its line.
+    // A listing shares a version, for which memory may be refused; each other row is answered by
+    // its line.
     let row = match command {
         Command::Username(name) => session::username(asker, name),
         Command::Password(password) => session::password(asker, password, line),
@@ -90,8 +91,8 @@ pub fn answer<'a, P: Peers>(
     })
 }
 
-// The rows stay calls of their own: what is inlined here is cleared for each command, also where another one was asked
-// for. Each reads its words itself.
+// The rows stay calls of their own: what is inlined here is cleared for each command, also where
+// another one was asked for. Each reads its words itself.
 
 impl<P: Peers> View<'_, P> {
     /// GET VAR.
@@ -251,7 +252,8 @@ fn refused<'a>(word: ErrWord) -> Reply<'a>
 /// A line of the program's own, with its LF.
 pub(crate) fn plain<'a>(line: &'static [u8]) -> Row<'a>
     requires { IsWholeLine line.now }
-    ensures { (words : List (List ℕ)) → line.now ≡ line_of words → Gives (told words) result }
+    ensures { (words : List (List ℕ)) → line.now ≡ line_of words
+        → Gives (in_one_line words) result }
 {
     Ok(Reply::One(line, Change::Nothing))
 }

@@ -33,7 +33,8 @@ impl<P: Peers> View<'_, P> {
         Ok(())
     }
 
-    /// The same of the right to a command. A word that is no lawful name is granted to nobody by name.
+    /// The same of the right to a command. A word that is no lawful name is granted to nobody by
+    /// name.
     pub(crate) fn user_of_command(&self, asker: Asker<'_>, name: &Option<Name>) -> Checked<()>
         ensures { result ≡ user self.now (asker_seen asker.entry) (instcmd_right name.now) }
     {
@@ -101,7 +102,8 @@ impl<P: Peers> View<'_, P> {
         Ok((ups, name))
     }
 
-    /// The id of an order of this session, where its orders are tracked, or this word where none is available.
+    /// The id of an order of this session, where its orders are tracked, or this word where none is
+    /// available.
     pub(crate) fn order_id(&self, asker: Asker<'_>, failed: ErrWord) -> Checked<Option<u128>>
         ensures { result ≡ no_id self.now (asker_seen asker.entry) failed }
     {
@@ -114,7 +116,8 @@ impl<P: Peers> View<'_, P> {
 
 /// The value, where it is one, and the variable may be set to it.
 pub(crate) fn settable<'v>(variable: &Variable, value: Option<&'v [u8]>) -> Checked<&'v [u8]>
-    ensures { found (λ value. value.now) result ≡ settable variable.now (option_copied value.entry) }
+    ensures { found (λ value. value.now) result
+        ≡ settable variable.now (option_copied value.entry) }
 {
     if !variable.flags().rw {
         return Err(ErrWord::Readonly);

@@ -1,5 +1,5 @@
 //! Laws of the table of answers.
-ghost use Rattle.nutanswer.specs.Laws.{RefusedLinesChangeNothing, OnlyOkChanges, ANamedUpsIsSeen, OrdersFit, ErrorLinesAreWhole, OrderLinesAreWhole, EachAnswerIsALineOrAListing, EachErrorIsALine, WhatIsToldIsFresh};
+ghost use Rattle.nutanswer.specs.Laws.{RefusedLinesChangeNothing, OnlyOkChanges, ANamedUpsIsSeen, OrdersFit, ErrorLinesAreWhole, OrderLinesAreWhole, EachAnswerIsALineOrAListing, EachErrorIsALine, WhatIsAnsweredIsFresh};
 ghost use Rattle.nutanswer.specs.Rows.{EachChangeComesOfItsCommand, EachOrderAnsweredOkIsGiven};
 
 /// Each change is made by its own command, after all its checks passed.
@@ -17,8 +17,8 @@ pub fn each_order_answered_ok_is_given()
 
 /// Data are answered, and orders accepted, only if the driver is connected, has reported all, says
 /// its data are right, and was heard at most MAXAGE ago.
-pub fn what_is_told_is_fresh()
-    ensures { WhatIsToldIsFresh }
+pub fn what_is_answered_is_fresh()
+    ensures { WhatIsAnsweredIsFresh }
 {}
 
 /// A refused line changes nothing. Only an answer that begins with `OK` comes with a change.

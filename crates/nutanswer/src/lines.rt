@@ -12,7 +12,8 @@ use nutwords::{Line, NAME_LIMIT, Name, VALUE_LIMIT, quote_into};
 /// The most bytes of an order's verb: `INSTCMD`.
 const VERB_LIMIT: usize = 7;
 
-/// The most bytes of an order before its value: its verb, the name of a variable or a command, a blank.
+/// The most bytes of an order before its value: its verb, the name of a variable or a command, a
+/// blank.
 const ORDER_FRONT_LIMIT: usize = VERB_LIMIT + 1 + NAME_LIMIT;
 
 /// The most bytes of an order before its id: each byte of its value may follow a backslash.
@@ -24,8 +25,8 @@ const TRACKING_LENGTH: usize = 1 + 8 + 1 + ID_LENGTH;
 /// The most bytes of an order with its LF.
 pub(crate) const ORDER_LINE_LIMIT: usize = ORDER_LIMIT + TRACKING_LENGTH + 1;
 
-/// Makes the line of an order: its verb, the name of a variable or a command, the value, if there is one, and the id, if
-/// the order is tracked.
+/// Makes the line of an order: its verb, the name of a variable or a command, the value, if there
+/// is one, and the id, if the order is tracked.
 pub(crate) fn order_line_into(
     verb: &[u8],
     name: &Name,

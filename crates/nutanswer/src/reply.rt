@@ -37,8 +37,8 @@ impl<'a> OrderLine<'a> {
     }
 }
 
-/// A password that a client gives, where it was made: in a change it is an address, and not its 256 bytes. Contracts see
-/// the password.
+/// A password that a client gives, where it was made: in a change it is an address, and not its 256
+/// bytes. Contracts see the password.
 #[derive(Drop)]
 pub struct GivenPassword<'a> {
     bytes: &'a [u8],
@@ -93,8 +93,8 @@ pub enum Change<'a> {
     Order(UpsId, OrderLine<'a>),
     /// The session's orders are tracked from now on, or they aren't.
     Tracking(bool),
-    /// The driver of this UPS is owed this line, with its LF, which names the id: the first available one, which is used for
-    /// the order.
+    /// The driver of this UPS is owed this line, with its LF, which names the id: the first
+    /// available one, which is used for the order.
     Tracked(UpsId, u128, OrderLine<'a>),
 }
 
@@ -105,7 +105,8 @@ pub enum Reply<'a> {
     One(&'a [u8], Change<'a>),
     /// A listing (RFC 9271: LIST). No command that is answered so changes anything.
     Many(Listing),
-    /// The listing of the clients that are logged in to this UPS, of this name (RFC 9271: LIST CLIENT). It isn't
-    /// carried here: who is asked for it copies their addresses. It changes nothing.
+    /// The listing of the clients that are logged in to this UPS, of this name (RFC 9271: LIST
+    /// CLIENT). It isn't carried here: who is asked for it copies their addresses. It changes
+    /// nothing.
     Clients(UpsName, UpsId),
 }

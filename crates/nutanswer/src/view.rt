@@ -35,7 +35,8 @@ pub struct UpsView<'a> {
 pub struct View<'a, P: Peers> {
     /// The server's moment, in seconds.
     pub moment: u64,
-    /// For how many seconds the data of a driver that sends nothing are right (upsd.conf(5): MAXAGE).
+    /// For how many seconds the data of a driver that sends nothing are right (upsd.conf(5):
+    /// MAXAGE).
     pub max_age: u32,
     /// The list of UPSs.
     pub list: &'a UpsList,
@@ -54,7 +55,16 @@ impl<'a, P: Peers> Model for View<'a, P> {
 
     ghost Value = { Seen };
 
-    ghost view = { λ v. record { moment = v.moment; max_age = v.max_age; list = v.list.now; upses = P.upses v.peers; users = v.users.now; descriptions = v.descriptions.now; clients = P.clients v.peers; tracking = v.tracking.now } };
+    ghost view = { λ v. record {
+      moment = v.moment;
+      max_age = v.max_age;
+      list = v.list.now;
+      upses = P.upses v.peers;
+      users = v.users.now;
+      descriptions = v.descriptions.now;
+      clients = P.clients v.peers;
+      tracking = v.tracking.now;
+    } };
 }
 
 /// The peers of a server: the drivers of its UPSs, and its clients.

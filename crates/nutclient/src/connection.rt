@@ -9,8 +9,9 @@ use std::io::ErrorKind;
 use std::net::{TcpStream, ToSocketAddrs};
 use std::time::Duration;
 
-/// Connects to the server: its name is looked up by the system, and each of its addresses is tried in turn. No address is
-/// waited for longer than `WAIT_SECONDS`, nor is a later read or write. It sends each line at once.
+/// Connects to the server: its name is looked up by the system, and each of its addresses is tried
+/// in turn. No address is waited for longer than `WAIT_SECONDS`, nor is a later read or write. It
+/// sends each line at once.
 ///
 /// # Errors
 ///

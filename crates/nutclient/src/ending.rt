@@ -7,7 +7,8 @@ use nutio::{Sink, send};
 use nutrequest::ClientFault;
 use nutwords::Line;
 
-/// Reports a fault, and gives the status that the program ends with. A line that isn't taken can't be reported either.
+/// Reports a fault, and gives the status that the program ends with. A line that isn't taken can't
+/// be reported either.
 pub(crate) fn report<E: Sink>(err: &mut E, program: Program, fault: &ClientFault) -> u8
     ensures { EndsBy E.contents E.failures program (Err fault.now) err.old result err.new }
 {

@@ -14,8 +14,9 @@ use nutio::{Sink, Source};
 use nutrequest::{ClientFault, Session, ask};
 use std::alloc::Global;
 
-/// Does the job over a new session with these two ends: what a client program does once it is connected. It prints on `out`
-/// and reports a fault on `err`. Gives the exit status, and the session that it leaves.
+/// Does the job over a new session with these two ends: what a client program does once it is
+/// connected. It prints on `out` and reports a fault on `err`. Gives the exit status, and the
+/// session that it leaves.
 pub fn do_job<R: Source, W: Sink, O: Sink, E: Sink>(
     alloc: Global,
     reader: R,
@@ -44,8 +45,8 @@ pub fn do_job<R: Source, W: Sink, O: Sink, E: Sink>(
     }
 }
 
-/// Does the job: sends its requests, each once the one before is granted, and prints the items of the last reply once
-/// it is whole. This is what upsc, upsrw and upscmd do.
+/// Does the job: sends its requests, each once the one before is granted, and prints the items of
+/// the last reply once it is whole. This is what upsc, upsrw and upscmd do.
 pub fn run<R: Source, W: Sink, O: Sink>(
     session: &mut Session<R, W>,
     out: &mut O,
@@ -60,7 +61,8 @@ pub fn run<R: Source, W: Sink, O: Sink>(
         job.now.requests.items job.now.form
         (unread_of session.old) (reader_of session.old) (writer_of session.old) out.old result
         (unread_of session.new) (reader_of session.new) (writer_of session.new) out.new }
-    // Where no call failed and memory was there, the bytes decide what is printed, however they are cut.
+    // Where no call failed and memory was there, the bytes decide what is printed, however they are
+    // cut.
     ensures printed { session.old.is_over ≡ false
         → (bytes : List ℕ) → R.remaining (reader_of session.old) ≡ Some bytes
         → NoneFailed (R.failures (reader_of session.old)) (R.failures (reader_of session.new))

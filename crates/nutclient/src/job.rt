@@ -12,8 +12,8 @@ use nutrequest::{Query, Request};
 use nuttracking::read_id;
 use nutwords::{Name, UpsName, Value};
 
-/// The server, the requests that are sent to it, each once the one before is granted, and how the items of the last reply
-/// are printed.
+/// The server, the requests that are sent to it, each once the one before is granted, and how the
+/// items of the last reply are printed.
 #[derive(Drop)]
 pub struct Job {
     pub target: Target,
@@ -128,7 +128,8 @@ fn ordered(by: &Sender<'_>, order: Option<Order>) -> Option<Job>
     })
 }
 
-/// What is sent before an order: the user's name, the password, and where it is tracked, the asking for its id.
+/// What is sent before an order: the user's name, the password, and where it is tracked, the asking
+/// for its id.
 fn login(by: &Sender<'_>) -> Option<ArrayVec<Request, REQUEST_LIMIT>>
     ensures requests { option_map (λ r. r.items) result ≡ login_of by.now }
     ensures few { IfSome result (λ r. length r.items ≤ 3) }

@@ -1,5 +1,5 @@
-//! The clients upsc, upsrw and upscmd (RFC 9271; upsc(8), upsrw(8), upscmd(8)): what their words ask for, the requests
-//! that are sent for it, and what is printed of the replies.
+//! The clients upsc, upsrw and upscmd (RFC 9271; upsc(8), upsrw(8), upscmd(8)): what their words
+//! ask for, the requests that are sent for it, and what is printed of the replies.
 #![tactic(auto)]
 
 mod client;

@@ -1,4 +1,5 @@
-//! The limits of the words, in bytes, the port of the protocol, how long a server is waited for, and a status.
+//! The limits of the words, in bytes, the port of the protocol, how long a server is waited for,
+//! and a status.
 
 /// The longest name of a host.
 pub const HOST_LIMIT: usize = 255;
@@ -15,11 +16,13 @@ pub const PORT_LIMIT: usize = 65_535;
 /// The port of the protocol (IANA: nut).
 pub const DEFAULT_PORT: u16 = 3493;
 
-/// How many seconds a server is waited for: by each of its addresses to connect, and by each read and each write.
+/// How many seconds a server is waited for: by each of its addresses to connect, and by each read
+/// and each write.
 pub const WAIT_SECONDS: u64 = 5;
 
 /// The status of a fault of the words.
 pub const WORD_FAULT: u8 = 2;
 
-/// The most requests of a job: the user's name, the password, the asking for tracking, and the order.
+/// The most requests of a job: the user's name, the password, the asking for tracking, and the
+/// order.
 pub const REQUEST_LIMIT: usize = 4;

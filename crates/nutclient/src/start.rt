@@ -1,4 +1,5 @@
-//! What the `main` of each program does: it takes the words, the network and the two outputs from the system.
+//! What the `main` of each program does: it takes the words, the network and the two outputs from
+//! the system.
 ghost use Rattle.std.specs.Prelude.{◌≡◌, ◌≤◌, IfOk, MatchResult, Result, map, string_bytes};
 ghost use Rattle.std.specs.Process.{exit_status};
 ghost use Rattle.clap.specs.Words.{HasMatchesOf};
@@ -34,7 +35,8 @@ pub fn main_of<C: Client>(rt: &HostRuntime) -> ExitCode
     }
 }
 
-/// Does what these words ask for: prints the help, or connects to the server and does the job. Gives the exit status.
+/// Does what these words ask for: prints the help, or connects to the server and does the job.
+/// Gives the exit status.
 fn obey<C: Client>(rt: &HostRuntime, words: &[String]) -> Result<u8, ClientFault>
     // The program ends by what was found in the words, or by why they were refused.
     ensures ends { (parsed : Result ArgMatches Error)

@@ -9,7 +9,8 @@ use arrayvec::ArrayString;
 use nutwords::{UpsName, is_digit};
 use std::marker::Model;
 
-/// The name or the IPv4 address of a host: 1 to 255 ASCII letters, digits, `.` and `-`. A contract sees its bytes.
+/// The name or the IPv4 address of a host: 1 to 255 ASCII letters, digits, `.` and `-`. A contract
+/// sees its bytes.
 #[derive(Drop)]
 pub struct Host {
     text: ArrayString<HOST_LIMIT>,
@@ -58,7 +59,8 @@ pub struct Target {
 }
 
 impl Target {
-    /// Reads `host` or `host:port`. A port is 1 to 65,535 without leading zeros, and 3493 where none is named.
+    /// Reads `host` or `host:port`. A port is 1 to 65,535 without leading zeros, and 3493 where
+    /// none is named.
     pub fn host(text: &str) -> Option<Target>
         ensures { result ≡ server_of text.now }
     {

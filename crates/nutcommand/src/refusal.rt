@@ -6,8 +6,8 @@ ghost use Rattle.nutcommand.specs.Refusal.{refusal_status};
 use clap::Error;
 use clap::error::ErrorKind;
 
-/// Prints what the parser of the words says: the help, the version, or a fault of the words. Returns the exit status,
-/// or `None` where memory was refused: then nothing is printed.
+/// Prints what the parser of the words says: the help, the version, or a fault of the words.
+/// Returns the exit status, or `None` where memory was refused: then nothing is printed.
 pub fn print_refusal(rt: &HostRuntime, error: &Error) -> Option<u8>
     ensures status { result ≡ refusal_status (kind_of error.now) }
     ensures most { IfSome result (λ status. status ≤ 2) }

@@ -54,7 +54,7 @@ all_its : (c : ℕ) (xs : List Execution) → Each (λ x. client_of x ≡ c) (of
 all_its c [] = tt
 all_its c (x ∷ xs) = cond_both (eqb (client_of x) c) (x ∷ of_client c xs) (of_client c xs) (Each (λ y. client_of y ≡ c)) (λ e. (eqb-true (client_of x) c e, all_its c xs)) (λ e. all_its c xs)
 
--- bytes that are one line are one line alone
+-- bytes that are one line are only that line
 no_bytes : (line : List ℕ) (rest : List ℕ) → with_lf line ++ rest ≡ [] → ⊥
 no_bytes line rest e = omega (arith, ap length e, length-append (with_lf line) rest, length-append line (10 ∷ []))
 

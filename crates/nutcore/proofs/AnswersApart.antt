@@ -1,4 +1,4 @@
--- Each answer of a run has the shape of an answer, so the answers can be told apart.
+-- Each answer of a run has the shape of an answer, so the answers can be kept apart.
 use Rattle.std.proofs.Common.{◌≡◌, ◌∙◌, ℕ, Bool, true, false, not, List, [], ◌∷◌, ◌++◌, Option, Result, refl, sym, ap, subst, append_assoc, arith}
 use Rattle.std.specs.Prelude.{All, IfSome, map, filter, length}
 use Rattle.std.proofs.Math.Seq.{take-append_seam}

@@ -1,4 +1,4 @@
--- Sessions, and the server, but for the bytes that sessions hold and are owed.
+-- Sessions, and the server, except for the bytes that sessions hold and are owed.
 use Rattle.std.proofs.Common.{◌≡◌, ℕ, List, [], ◌∷◌, Option, Some, None, refl, map, arith}
 use Rattle.std.specs.Prelude.{option_map}
 use Rattle.nutcore.proofs.Common.{length-map, SessionState, ServerState}
@@ -8,7 +8,7 @@ use Rattle.nutcore.specs.Happenings.{without_bytes, apart_from_bytes}
 use Rattle.std.proofs.lemmas.List.{map-append}
 use Rattle.std.proofs.lemmas.Grind.{common_steps}
 
--- sessions but for what they hold and are owed
+-- sessions except for what they hold and are owed
 pub found_without : (c : ℕ) (xs : List SessionState) → find c (map without_bytes xs) ≡ option_map without_bytes (find c xs)
 found_without c [] = refl
 found_without c (x ∷ xs) = grind (arith, common_steps, found_without c xs)

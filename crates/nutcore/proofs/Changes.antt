@@ -1,4 +1,4 @@
--- What a change does to the session that asks, to the UPSs and to what their drivers are told: a case each.
+-- What a change does to the session that asks, to the UPSs and to what their drivers are given: a case each.
 use Rattle.std.proofs.Common.{◌≡◌, ℕ, ◌≤◌, false, true, List, [], ◌∷◌, ◌++◌, cond, eqb, Option, Some, None, refl, sym, ap, inl, inr, arith, rules, length, length-append, append-nil}
 use Rattle.std.specs.Prelude.{◌⊎◌}
 use Rattle.std.proofs.Math.Seq.{drop-nil}
@@ -13,7 +13,7 @@ use Rattle.nutcore.specs.Pump.{answered}
 use Rattle.nutcore.specs.Promises.{TakesLine}
 use Rattle.nutcore.specs.Sound.{IsSoundUps}
 use Rattle.nutcore.specs.Isolation.{without_commands}
-use Rattle.nutcore.specs.DriverOrders.{Telling, order, texts_of, told_by_change}
+use Rattle.nutcore.specs.DriverOrders.{ServerLine, order, texts_of, given_by_change}
 
 -- what a change keeps of a session, and by which change a user name, a password or a login comes
 pub record Keeps (change : Change) (x : SessionState) : Type 0 where
@@ -47,15 +47,15 @@ keeps change x = record {
 }
 
 -- what a change does to the one UPS that it changes: it may set its forced shutdown, and give its driver an order
-pub record ChangesUps (change : Change) (v : UpsId) (f : UpsState → UpsState) (told : UpsId → List Telling) : Type 0 where
+pub record ChangesUps (change : Change) (v : UpsId) (f : UpsState → UpsState) (given : UpsId → List ServerLine) : Type 0 where
   -- all else stays
   pub same : (x : UpsState) → without_commands (f x) ≡ without_commands x
   pub fsd : (x : UpsState) → ((f x).fsd ≡ x.fsd) ⊎ (((f x).fsd ≡ true) × (change ≡ Fsd v))
-  -- its driver is owed what it is told beside that, and no other driver is told anything
-  pub owed : (u : UpsId) (x : UpsState) → eqb v.place u.place ≡ true → (f x).owed ≡ x.owed ++ texts_of (told u)
-  pub elsewhere : (u : UpsId) → eqb v.place u.place ≡ false → told u ≡ []
-  -- what is told is an order
-  pub orders : (u : UpsId) → (told u ≡ []) ⊎ ((line : List ℕ) × (id : Option ℕ) × (v.place ≡ u.place) × (change ≡ order_to v line id) × (told u ≡ order line ∷ []))
+  -- its driver is owed what it is given beside that, and no other driver is given anything
+  pub owed : (u : UpsId) (x : UpsState) → eqb v.place u.place ≡ true → (f x).owed ≡ x.owed ++ texts_of (given u)
+  pub elsewhere : (u : UpsId) → eqb v.place u.place ≡ false → given u ≡ []
+  -- what is given is an order
+  pub orders : (u : UpsId) → (given u ≡ []) ⊎ ((line : List ℕ) × (id : Option ℕ) × (v.place ≡ u.place) × (change ≡ order_to v line id) × (given u ≡ order line ∷ []))
   pub sound : (m : ℕ) (x : UpsState) → ((line : List ℕ) (id : Option ℕ) → change ≡ order_to v line id → TakesLine line x) → IsSoundUps m x → IsSoundUps m (f x)
 
 sets_fsd : (v : UpsId) → ChangesUps (Fsd v) v with_fsd (λ u. [])
@@ -85,9 +85,9 @@ gives_order v line id change is = record {
 }
 
 -- what holds where nothing of the UPSs changes, and where one does so, holds of each change
-pub of_upses : (P : (UpsId → List Telling) → List UpsState → Type 0) (change : Change) (xs : List UpsState) → P (λ u. []) xs
-    → ((v : UpsId) (f : UpsState → UpsState) (told : UpsId → List Telling) → ChangesUps change v f told → P told (changed_at f v.place xs))
-    → P (λ u. told_by_change u change) (changed_upses change xs)
+pub of_upses : (P : (UpsId → List ServerLine) → List UpsState → Type 0) (change : Change) (xs : List UpsState) → P (λ u. []) xs
+    → ((v : UpsId) (f : UpsState → UpsState) (given : UpsId → List ServerLine) → ChangesUps change v f given → P given (changed_at f v.place xs))
+    → P (λ u. given_by_change u change) (changed_upses change xs)
 of_upses P (Fsd v) xs same one = one v with_fsd (λ u. []) (sets_fsd v)
 of_upses P (Order v line) xs same one = one v (with_order line.items) _ (gives_order v line.items None _ refl)
 of_upses P (Tracked v id line) xs same one = one v (with_order line.items) _ (gives_order v line.items (Some id) _ refl)

@@ -1,4 +1,4 @@
--- What an event does to a UPS: what its driver told, what is owed, whether the driver stays, and the count; and what bytes do.
+-- What an event does to a UPS: what its driver reported, what is owed, whether the driver stays, and the count; and what bytes do.
 use Rattle.std.proofs.Common.{◌≡◌, ◌≤◌, ◌∙◌, ◌+◌, ℕ, Bool, true, false, ◌&&◌, not, List, [], ◌∷◌, ◌++◌, Option, Some, None, refl, sym, ap, cond, min, take, drop, append_assoc, append-nil, arith}
 use Rattle.nutcore.proofs.Common.{never_both, and_from, flat_map-append, take-append-drop, UpsId, TrackingState, Event}
 use Rattle.nutdriver.specs.declared.report.Report.{Report}
@@ -14,7 +14,7 @@ use Rattle.nutcore.specs.Ups.{UpsState, after_connecting, after_loss, greatest_c
 use Rattle.nutcore.specs.Headline.{IsBeginning}
 use Rattle.nutcore.specs.Sound.{Each}
 use Rattle.nutcore.specs.DriverHistory.{Heard, heard_at, as_far, bytes_heard, after_heard, refusals, IsWholeLine, CountsRefused, IsHeard}
-use Rattle.nutcore.specs.DriverOrders.{Telling, texts_of}
+use Rattle.nutcore.specs.DriverOrders.{ServerLine, texts_of}
 use Rattle.nutcore.proofs.DriverText.{ups_after_text, ups_after_bytes}
 
 -- counts: what one is at most, and one after two lists of lines
@@ -70,19 +70,19 @@ begins_text : (m place : ℕ) (t : TrackingState) (text : List ℕ) (refused : O
 begins_text m place t text None = begins_with m place t text (whole_lines text) [] (append-nil (whole_lines text))
 begins_text m place t text (Some k) = begins_with m place t text (take k (whole_lines text)) (drop k (whole_lines text)) (take-append-drop k (whole_lines text))
 
--- an event leaves y of the UPS x, of whose driver this piece came, by which these lines are heard, and which is told this and takes this
-pub record Does (now : ℕ) (u : UpsId) (e : Event) (x : UpsState) (piece : List ℕ) (lines : List Heard) (told : List Telling) (taken : List ℕ) (y : UpsState) : Type 0 where
+-- an event leaves y of the UPS x, of whose driver this piece came, by which these lines are heard, and which is given this and takes this
+pub record Does (now : ℕ) (u : UpsId) (e : Event) (x : UpsState) (piece : List ℕ) (lines : List Heard) (given : List ServerLine) (taken : List ℕ) (y : UpsState) : Type 0 where
   pub stays : x.report.connected ≡ true → y.report.connected ≡ true → IsHeard x piece lines y
   pub loses : x.report.connected ≡ true → y.report.connected ≡ false → IsBeginning (bytes_heard lines) (x.unfinished ++ piece)
   pub begins : x.report.connected ≡ false → y.report.connected ≡ true → (e ≡ DriverUp u) × (y ≡ after_connecting now x)
   pub counted : CountsRefused x lines y
-  pub takes : IsBeginning taken (x.owed ++ texts_of told)
-  pub owes : (x.report.connected ≡ false → x.owed ≡ []) → (x.report.connected && not y.report.connected) ≡ false → x.owed ++ texts_of told ≡ taken ++ y.owed
+  pub takes : IsBeginning taken (x.owed ++ texts_of given)
+  pub owes : (x.report.connected ≡ false → x.owed ≡ []) → (x.report.connected && not y.report.connected) ≡ false → x.owed ++ texts_of given ≡ taken ++ y.owed
 
 module _ (now : ℕ) (u : UpsId) (e : Event) (x : UpsState) where
   -- nothing comes of it, and its driver stays
-  pub goes_on : (told : List Telling) (taken : List ℕ) (y : UpsState) → y.report ≡ x.report → y.unfinished ≡ x.unfinished → y.faulty ≡ x.faulty → x.owed ++ texts_of told ≡ taken ++ y.owed → Does now u e x [] [] told taken y
-  goes_on told taken y report same count owed =
+  pub goes_on : (given : List ServerLine) (taken : List ℕ) (y : UpsState) → y.report ≡ x.report → y.unfinished ≡ x.unfinished → y.faulty ≡ x.faulty → x.owed ++ texts_of given ≡ taken ++ y.owed → Does now u e x [] [] given taken y
+  goes_on given taken y report same count owed =
       let driver : y.report.connected ≡ x.report.connected = ap (λ (r : Report). r.connected) report in
       let counted : CountsRefused x [] y = λ few. omega (arith, count, few) in
       record {
@@ -107,14 +107,14 @@ module _ (now : ℕ) (u : UpsId) (e : Event) (x : UpsState) where
     owes = λ nothing kept. never_both (x.report.connected && true) (and_from x.report.connected true is refl) kept;
   }
 
-  pub unconnected : (piece : List ℕ) (told : List Telling) (y : UpsState) → x.report.connected ≡ false → y.faulty ≡ x.faulty → (y.report.connected ≡ true → (e ≡ DriverUp u) × (y ≡ after_connecting now x))
-      → ((x.report.connected ≡ false → x.owed ≡ []) → x.owed ++ texts_of told ≡ y.owed) → Does now u e x piece [] told [] y
-  unconnected piece told y absent count connects owes = record {
+  pub unconnected : (piece : List ℕ) (given : List ServerLine) (y : UpsState) → x.report.connected ≡ false → y.faulty ≡ x.faulty → (y.report.connected ≡ true → (e ≡ DriverUp u) × (y ≡ after_connecting now x))
+      → ((x.report.connected ≡ false → x.owed ≡ []) → x.owed ++ texts_of given ≡ y.owed) → Does now u e x piece [] given [] y
+  unconnected piece given y absent count connects owes = record {
     stays = λ was still. never_both x.report.connected was absent;
     loses = λ was gone. never_both x.report.connected was absent;
     begins = λ gone still. connects still;
     counted = λ few. omega (arith, count, few);
-    takes = (x.owed ++ texts_of told, refl);
+    takes = (x.owed ++ texts_of given, refl);
     owes = λ nothing kept. owes nothing;
   }
 

@@ -10,7 +10,7 @@ use Rattle.nutwords.specs.declared.limits.TheConstants.{LINE_ROOM}
 use Rattle.nutdriver.specs.declared.report.Report.{Report}
 use Rattle.nutdriver.specs.declared.fault.DriverFault.{DriverFault}
 use Rattle.nutdriver.specs.declared.report.LineOutcome.{LineOutcome}
-use Rattle.nutdriver.specs.Report.{after_line, line_changes, OrderEnd, end_in, end_told}
+use Rattle.nutdriver.specs.Report.{after_line, line_changes, OrderEnd, end_in, reported_end}
 use Rattle.nutcore.specs.Reports.{with_end, is_unawaited}
 use Rattle.nutcore.proofs.Common.{cond-true, cond-false, le-leb, lt-leb, option_map, option_map_or, UpsId, TrackingState, Fault, ServerState, ups_at, with_ups_changed, with_tracking}
 use Rattle.nutcore.specs.declared.event.Fault.TheVariants.{LineTooLong, Memory}
@@ -19,13 +19,13 @@ use Rattle.nutwords.specs.WholeLines.{joined, whole_lines, unfinished_after, is_
 use Rattle.nutcore.specs.Ups.{UpsState, after_loss, fault_of, is_refused, with_faulty_line, after_text, with_unfinished, wants_memory_for}
 use Rattle.nutcore.specs.Step.{after_driver_line, after_driver_lines, with_rest, after_driver_text, wants_driver_memory}
 use Rattle.nutcore.specs.Calls.{is_connected}
-use Rattle.nutcore.specs.Promises.{front_or, IsCut, ChangesUps, OfUps, DoesLine, IsTold, IsStopped, holding_nothing, ExecutesDriverLine, ReadsDriverLine}
+use Rattle.nutcore.specs.Promises.{front_or, IsCut, ChangesUps, OfUps, DoesLine, HasReported, IsStopped, holding_nothing, ExecutesDriverLine, ReadsDriverLine}
 use Rattle.nutcore.proofs.UpsPlaces.{of_ups, changed_there, at_changed, server_agree, server_twice, changed_to, left_at}
 use Rattle.nutcore.proofs.DriverSteps.{is_there, connected_as, connected_at}
 use Rattle.nutcore.proofs.DriverChanges.{line_leaves}
 use Rattle.nutcore.proofs.KeptSound.{of_call, line_stays}
 use Rattle.nutwords.proofs.PublicLaws.{whole_lines_are_the_cut, rest_is_that_behind_the_first, found_line_is_first, rest_is_unfinished, rest_is_overlong, one_cutting}
-use Rattle.nutdriver.proofs.PublicLaws.{what_is_told_of_an_order_is_read}
+use Rattle.nutdriver.proofs.PublicLaws.{what_is_reported_of_an_order_is_read}
 
 -- what is unfinished changes nothing of what a line does to the server
 line_beside : (u : UpsId) (line : List ℕ) (s : ServerState) → holding_nothing u (after_driver_line u line s) ≡ after_driver_line u line (holding_nothing u s)
@@ -42,7 +42,7 @@ lines_beside : (u : UpsId) (lines : List (List ℕ)) (s : ServerState) → after
 lines_beside u [] s = refl
 lines_beside u (line ∷ lines) s = ap (after_driver_lines u lines) (sym (line_beside u line s)) ∙ lines_beside u lines (after_driver_line u line s)
 
--- nor of what is told of a text, or of the memory that it wants
+-- nor of what is said of a text, or of the memory that it wants
 text_beside : (u : UpsId) (text : List ℕ) (refused : Option ℕ) (s : ServerState) → after_driver_text u text refused (holding_nothing u s) ≡ after_driver_text u text refused s
 unfolding after_driver_text
 text_beside u text None s =
@@ -80,7 +80,7 @@ unfolding unfinished_after
 none_whole text tail cut =
     let none : whole_lines text ≡ [] = (one_cutting text [] (whole_lines text) tail (tail_after text) cut (whole_lines_are_the_cut text)).0 in (none, ap (λ (lines : List (List ℕ)). drop (length (joined lines)) text) none)
 
--- what is told of the lines after a first one is told of all of them, one line later
+-- what is said of the lines after a first one is said of all of them, one line later
 abbrev one_later : Result (Unit {0}) Fault → Result (Unit {0}) Fault
 one_later (Err (Memory k)) = Err (Memory (suc k))
 one_later r = r
@@ -93,7 +93,7 @@ stops_later : (u : UpsId) (held piece line : List ℕ) (used : ℕ) (s : ServerS
 unfolding after_driver_text wants_driver_memory
 stops_later u held piece line used s found r t h = grind (arith, next_whole held piece line used found)
 
--- Where the reading stands: k lines are done, and what is told of what is held and the rest is told of the whole text.
+-- Where the reading is: k lines are done, and what is said of what is held and the rest is said of the whole text.
 pub record IsAtLine (u : UpsId) (k : ℕ) (text : List ℕ) (old now : ServerState) (rest : List ℕ) : Type 0 where
   pub ups : UpsState
   pub there : ups_at u.place now ≡ Some ups
@@ -155,11 +155,11 @@ stops_refused u k text old s t rest (Memory n) at (these, line, used, found, cha
 stops_refused u k text old s t rest fault at never = absurd never
 
 -- where it was refused, the driver is lost
-pub told_lost : (u : UpsId) (text : List ℕ) (old s t : ServerState) (r : Result (Unit {0}) Fault) → is_err r ≡ true → IsStopped u text old r s → t ≡ with_ups_changed after_loss u s → IsTold u text old r t
-told_lost u text old s t r failed stopped lost = grind arith
+pub reported_lost : (u : UpsId) (text : List ℕ) (old s t : ServerState) (r : Result (Unit {0}) Fault) → is_err r ≡ true → IsStopped u text old r s → t ≡ with_ups_changed after_loss u s → HasReported u text old r t
+reported_lost u text old s t r failed stopped lost = grind arith
 
-pub told_kept : (u : UpsId) (text : List ℕ) (old s : ServerState) (r : Result (Unit {0}) Fault) → is_err r ≡ false → IsStopped u text old r s → IsTold u text old r s
-told_kept u text old s r went stopped = grind arith
+pub reported_kept : (u : UpsId) (text : List ℕ) (old s : ServerState) (r : Result (Unit {0}) Fault) → is_err r ≡ false → IsStopped u text old r s → HasReported u text old r s
+reported_kept u text old s r went stopped = grind arith
 
 -- What a line did to the UPS of its driver, said of the server.
 pub record HasDone (u : UpsId) (length : Option ℕ) (piece : List ℕ) (s : ServerState) (r : Result LineOutcome AllocError) (t : ServerState) : Type 0 where
@@ -182,7 +182,7 @@ module _ {u : UpsId} {length : Option ℕ} {piece : List ℕ} {s t : ServerState
   line = front_or length piece h.before.unfinished
 
   -- It is done, and is counted where it is refused.
-  pub executes : (mid after : ServerState) (outcome : LineOutcome) (b : Bool) (fault : Option DriverFault) → fault ≡ fault_of outcome → r ≡ Ok outcome → mid ≡ with_tracking (with_end u.place (end_told outcome) t.tracking) t → b ≡ is_refused (is_unawaited u.place (end_told outcome) t.tracking) outcome
+  pub executes : (mid after : ServerState) (outcome : LineOutcome) (b : Bool) (fault : Option DriverFault) → fault ≡ fault_of outcome → r ≡ Ok outcome → mid ≡ with_tracking (with_end u.place (reported_end outcome) t.tracking) t → b ≡ is_refused (is_unawaited u.place (reported_end outcome) t.tracking) outcome
       → after ≡ cond b (with_ups_changed (with_faulty_line fault) u mid) mid → OfUps u s (λ x. ExecutesDriverLine u (front_or length piece x.unfinished) x s (Ok tt) after)
   unfolding after_driver_line
   executes mid after outcome b fault why was told refused counted =
@@ -190,19 +190,19 @@ module _ {u : UpsId} {length : Option ℕ} {piece : List ℕ} {s t : ServerState
       let y : UpsState = h.after in
       let (is, leaves) = subst (λ (q : Result LineOutcome AllocError). DoesLine s.moment line x q y) was h.does in
       let done : Report × LineOutcome = after_line s.moment x.report line in
-      let read : end_told outcome ≡ end_in line = ap end_told is ∙ what_is_told_of_an_order_is_read s.moment x.report line in
+      let read : reported_end outcome ≡ end_in line = ap reported_end is ∙ what_is_reported_of_an_order_is_read s.moment x.report line in
       let unawaited : Bool = is_unawaited u.place (end_in line) s.tracking in
       let next : TrackingState = with_end u.place (end_in line) s.tracking in
       let z : UpsState = record (with_unfinished [] x) { report = done.0 } in
       let w : UpsState = cond b (with_faulty_line fault y) y in
       let because : fault ≡ fault_of done.1 = why ∙ ap fault_of is in
       let does : UpsState → UpsState = λ z. after_text s.moment unawaited (with_unfinished [] z) line in
-      let by : b ≡ is_refused unawaited done.1 = refused ∙ ap (λ (v : ServerState). is_refused (is_unawaited u.place (end_told outcome) v.tracking) outcome) h.leaves ∙ ap (λ (o : Option OrderEnd). is_refused (is_unawaited u.place o s.tracking) outcome) read ∙ ap (is_refused unawaited) is in
+      let by : b ≡ is_refused unawaited done.1 = refused ∙ ap (λ (v : ServerState). is_refused (is_unawaited u.place (reported_end outcome) v.tracking) outcome) h.leaves ∙ ap (λ (o : Option OrderEnd). is_refused (is_unawaited u.place o s.tracking) outcome) read ∙ ap (is_refused unawaited) is in
       let same : w ≡ does x = ap (λ (v : UpsState). cond b (with_faulty_line fault v) v) leaves ∙ ap (λ (c : Bool). cond c (with_faulty_line fault z) z) by ∙ ap (λ (f : Option DriverFault). cond (is_refused unawaited done.1) (with_faulty_line f z) z) because in
       of_ups s u x (λ v. ExecutesDriverLine u (front_or length piece v.unfinished) v s (Ok tt) after) h.there (
       counted
       ∙ ap (λ (v : ServerState). cond b (with_ups_changed (with_faulty_line fault) u v) v)
-      (told ∙ ap (λ (v : ServerState). with_tracking (with_end u.place (end_told outcome) v.tracking) v) h.leaves ∙ ap (λ (o : Option OrderEnd). with_tracking (with_end u.place o s.tracking) (with_ups_changed (λ z. y) u s)) read)
+      (told ∙ ap (λ (v : ServerState). with_tracking (with_end u.place (reported_end outcome) v.tracking) v) h.leaves ∙ ap (λ (o : Option OrderEnd). with_tracking (with_end u.place o s.tracking) (with_ups_changed (λ z. y) u s)) read)
       ∙ by_refusal fault y next b
       ∙ ap (with_tracking next) (server_agree s u (λ z. w) does (of_ups s u x (λ z. w ≡ does z) h.there same) ∙ sym (server_twice (with_unfinished []) (λ z. after_text s.moment unawaited z line) u s)))
     where

@@ -1,18 +1,18 @@
--- What a driver told, was told and was sent over whole runs: since it connected, up to its loss, and the count of its refused lines.
+-- What a driver reported, was given and was sent over whole runs: since it connected, up to its loss, and the count of its refused lines.
 use Rattle.std.proofs.Common.{◌≡◌, ◌∙◌, ◌+◌, ℕ, true, false, List, [], ◌∷◌, ◌++◌, Option, Some, refl, sym, ap, subst, min, append_assoc, append-nil, arith, Bool, not, ◌&&◌, ◌≤◌, ◌<◌, length, inl, inr}
 use Rattle.nutcore.proofs.Common.{option_map_or, flat_map-append, same_Some, UpsId, Event, Outcome, ServerState, ups_at, after, Run, UpsState, never_both}
 use Rattle.nutdriver.specs.declared.report.Report.{Report}
 use Rattle.nutdriver.specs.Report.{after_line, lost_report}
 use Rattle.nutwords.specs.Text.{with_lf}
 use Rattle.nutcore.specs.Ups.{UpsState, greatest_count, new_ups, after_connecting}
-use Rattle.nutcore.specs.DriverHistory.{Heard, heard_in_event, heard, bytes_heard, after_heard, refused_among, IsWholeLine, came_in_event, came, has_driver, StaysConnected, IsHeard, WhatADriverToldIsExecuted}
+use Rattle.nutcore.specs.DriverHistory.{Heard, heard_in_event, heard, bytes_heard, after_heard, refused_among, IsWholeLine, came_in_event, came, has_driver, StaysConnected, IsHeard, WhatADriverReportedIsExecuted}
 use Rattle.nutcore.proofs.UpsPlaces.{read_off, Stands, within}
 use Rattle.nutcore.proofs.DriverChanges.{count_is_few, both_counts, Does}
 use Rattle.nutcore.proofs.Events.{each}
 use Rattle.nutcore.proofs.DriverSteps.{IsThere}
 use Rattle.nutcore.proofs.SoundUps.{each_join, each_get, each_same}
 use Rattle.nutcore.specs.Sound.{IsSoundUps, IsSound, EachEventKeepsTheServerSound, Each, ANewServerIsSound, EveryRunKeepsTheServerSound}
-use Rattle.nutcore.specs.DriverOrders.{Telling, texts_of, told_in_event, owed_to_driver, taken_in_event, is_lost_by, Connections, last, lost, with_front, in_front, connections, IsSentAndOwed, WhatADriverWasSentAndIsOwedIsWhatItWasTold}
+use Rattle.nutcore.specs.DriverOrders.{ServerLine, texts_of, given_in_event, owed_to_driver, taken_in_event, is_lost_by, Connections, last, lost, with_front, in_front, connections, IsSentAndOwed, WhatADriverWasSentAndIsOwedIsWhatItWasGiven}
 use Rattle.std.specs.Prelude.{◌⊎◌}
 use Rattle.nutcore.specs.declared.event.Event.TheVariants.{DriverUp}
 use Rattle.nutcore.specs.declared.event.Outcome.TheVariants.{Done}
@@ -58,17 +58,17 @@ pub first_stays : (u : UpsId) (s : ServerState) (es : List Event) (os : List Out
 first_stays u s (e ∷ es) (o ∷ os) h = h.0
 first_stays u s es os h = h
 
-pub told_is_executed : WhatADriverToldIsExecuted
-told_is_executed old new [] [] u r stays =
+pub reported_is_executed : WhatADriverReportedIsExecuted
+reported_is_executed old new [] [] u r stays =
     let x = driver_there u old stays in
     let none : IsHeard x.ups [] [] x.ups = record { whole = tt; all = append-nil x.ups.unfinished; report = refl; counted = λ few. omega (arith, few) } in
     record { before = x.ups; after = x.ups; there_before = x.there; there_after = ap (ups_at u.place) r ∙ x.there; is_heard = none }
-told_is_executed old new (e ∷ es) (o ∷ os) u (mid, step, r) stays =
+reported_is_executed old new (e ∷ es) (o ∷ os) u (mid, step, r) stays =
     let next : ServerState = after old e o in
     let x = driver_there u old stays.0 in
     let first = (each old e).leaves u o x.ups x.there in
     let still : first.ups.report.connected ≡ true = sym (has_it u next first.ups first.there) ∙ first_stays u next es os stays.1 in
-    let rest = told_is_executed next new es os u (subst (λ (z : ServerState). Run z es os new) step.leaves r) stays.1 in
+    let rest = reported_is_executed next new es os u (subst (λ (z : ServerState). Run z es os new) step.leaves r) stays.1 in
     let same : rest.before ≡ first.ups = same_Some rest.before first.ups (sym rest.there_before ∙ first.there) in
     record {
       before = x.ups;
@@ -79,7 +79,7 @@ told_is_executed old new (e ∷ es) (o ∷ os) u (mid, step, r) stays =
           heard_both x.ups first.ups rest.after (came_in_event u e) (came u es) (heard_in_event u old e o) (heard u next es os) (first.is.stays x.is still)
           (subst (λ (y : UpsState). IsHeard y (came u es) (heard u next es os) rest.after) same rest.is_heard);
     }
-told_is_executed old new es os u r stays = absurd r
+reported_is_executed old new es os u r stays = absurd r
 
 owed_nothing : (u : UpsId) (s : ServerState) (x : UpsState) → IsSound s → ups_at u.place s ≡ Some x → x.report.connected ≡ false → x.owed ≡ []
 owed_nothing u s x sound there gone = ap (λ (y : UpsState). y.owed) ((each_get (IsSoundUps s.moment) s.upses u.place x there sound.upses).lost gone)
@@ -87,26 +87,26 @@ owed_nothing u s x sound there gone = ap (λ (y : UpsState). y.owed) ((each_get 
 lost_is : (a b : Bool) → (a && not b) ≡ true → b ≡ false
 lost_is a b e = grind arith
 
-joined : (before : List ℕ) (told more : List Telling) (taken between : List ℕ) → before ++ texts_of told ≡ taken ++ between → before ++ texts_of (told ++ more) ≡ taken ++ (between ++ texts_of more)
+joined : (before : List ℕ) (told more : List ServerLine) (taken between : List ℕ) → before ++ texts_of told ≡ taken ++ between → before ++ texts_of (told ++ more) ≡ taken ++ (between ++ texts_of more)
 joined before told more taken between e =
     ap (λ (z : List ℕ). before ++ z) (flat_map-append _ told more) ∙ sym (append_assoc before (texts_of told) (texts_of more)) ∙ ap (λ (z : List ℕ). z ++ texts_of more) e ∙ append_assoc taken between (texts_of more)
 
-in_front_owed : (before after : List ℕ) (told : List Telling) (taken between : List ℕ) (later : Connections) → before ++ texts_of told ≡ taken ++ between → IsSentAndOwed between later after → IsSentAndOwed before (with_front told taken later) after
-in_front_owed before after told taken between (last now) e h = joined before told now.told taken between e ∙ ap (λ (z : List ℕ). taken ++ z) h ∙ sym (append_assoc taken now.taken after)
+in_front_owed : (before after : List ℕ) (told : List ServerLine) (taken between : List ℕ) (later : Connections) → before ++ texts_of told ≡ taken ++ between → IsSentAndOwed between later after → IsSentAndOwed before (with_front told taken later) after
+in_front_owed before after told taken between (last now) e h = joined before told now.given taken between e ∙ ap (λ (z : List ℕ). taken ++ z) h ∙ sym (append_assoc taken now.taken after)
 in_front_owed before after told taken between (lost first later) e ((rest, h), more) =
-    ((rest, append_assoc taken first.taken rest ∙ ap (λ (z : List ℕ). taken ++ z) h ∙ sym (joined before told first.told taken between e)), more)
+    ((rest, append_assoc taken first.taken rest ∙ ap (λ (z : List ℕ). taken ++ z) h ∙ sym (joined before told first.given taken between e)), more)
 
 event_sent : (u : UpsId) (s : ServerState) (e : Event) (o : Outcome) (x : UpsState) (owed : List ℕ) (later : Connections) → ups_at u.place s ≡ Some x
-    → (l : Stands u.place (after s e o).upses (Does s.moment u e x (came_in_event u e) (heard_in_event u s e o) (told_in_event u s e o) (taken_in_event u s e))) → (x.report.connected ≡ false → x.owed ≡ [])
-    → (l.ups.report.connected ≡ false → l.ups.owed ≡ []) → IsSentAndOwed l.ups.owed later owed → IsSentAndOwed x.owed (in_front (is_lost_by u s e o) (told_in_event u s e o) (taken_in_event u s e) later) owed
+    → (l : Stands u.place (after s e o).upses (Does s.moment u e x (came_in_event u e) (heard_in_event u s e o) (given_in_event u s e o) (taken_in_event u s e))) → (x.report.connected ≡ false → x.owed ≡ [])
+    → (l.ups.report.connected ≡ false → l.ups.owed ≡ []) → IsSentAndOwed l.ups.owed later owed → IsSentAndOwed x.owed (in_front (is_lost_by u s e o) (given_in_event u s e o) (taken_in_event u s e) later) owed
 event_sent u s e o x owed later there l before nothing rest = by_loss (is_lost_by u s e o) refl
   where
     lost_here : is_lost_by u s e o ≡ (x.report.connected && not l.ups.report.connected)
     lost_here = ap (λ (b : Bool). b && not (has_driver u (after s e o))) (has_it u s x there) ∙ ap (λ (b : Bool). x.report.connected && not b) (has_it u (after s e o) l.ups l.there)
 
-    by_loss : (b : Bool) → is_lost_by u s e o ≡ b → IsSentAndOwed x.owed (in_front b (told_in_event u s e o) (taken_in_event u s e) later) owed
+    by_loss : (b : Bool) → is_lost_by u s e o ≡ b → IsSentAndOwed x.owed (in_front b (given_in_event u s e o) (taken_in_event u s e) later) owed
     by_loss true k = (l.is.takes, subst (λ (z : List ℕ). IsSentAndOwed z later owed) (nothing (lost_is x.report.connected l.ups.report.connected (sym lost_here ∙ k))) rest)
-    by_loss false k = in_front_owed x.owed owed (told_in_event u s e o) (taken_in_event u s e) l.ups.owed later (l.is.owes before (sym lost_here ∙ k)) rest
+    by_loss false k = in_front_owed x.owed owed (given_in_event u s e o) (taken_in_event u s e) l.ups.owed later (l.is.owes before (sym lost_here ∙ k)) rest
 
 run_sent : EachEventKeepsTheServerSound → (old new : ServerState) (es : List Event) (os : List Outcome) (u : UpsId) (x : UpsState) → IsSound old → ups_at u.place old ≡ Some x → Run old es os new
     → IsSentAndOwed x.owed (connections u old es os) (owed_to_driver u new)
@@ -119,7 +119,7 @@ run_sent keeps old new (e ∷ es) (o ∷ os) u x sound there (mid, step, r) =
     event_sent u old e o x (owed_to_driver u new) (connections u next es os) there l (owed_nothing u old x sound there) (owed_nothing u next l.ups sound_next l.there) rest
 run_sent keeps old new es os u x sound there r = absurd r
 
-pub sent_to_drivers : EachEventKeepsTheServerSound → WhatADriverWasSentAndIsOwedIsWhatItWasTold
+pub sent_to_drivers : EachEventKeepsTheServerSound → WhatADriverWasSentAndIsOwedIsWhatItWasGiven
 sent_to_drivers keeps old new es os u sound few r =
     let x = within u.place old.upses few in
     subst (λ (z : List ℕ). IsSentAndOwed z (connections u old es os) (owed_to_driver u new)) (sym (read_off (λ (y : UpsState). y.owed) [] u old x.ups x.there)) (run_sent keeps old new es os u x.ups sound x.there r)
@@ -163,7 +163,7 @@ earlier u s new e o es os x now there at step run (inr (inl stays)) = by_driver 
         let l = (each s e).leaves u o x there in
         let still : l.ups.report.connected ≡ true = sym (has_it u next l.ups l.there) ∙ first_stays u next es os stays in
         let begun = l.is.begins absent still in
-        let told = told_is_executed next new es os u run stays in
+        let told = reported_is_executed next new es os u run stays in
         let before : told.before ≡ after_connecting s.moment x = same_Some told.before l.ups (sym told.there_before ∙ l.there) ∙ begun.1 in
         let after_it : told.after ≡ now = same_Some told.after now (sym told.there_after ∙ at) in
         let done : o ≡ Done = up_done u s o x there absent (subst (λ (z : Event). MayAnswer s z o) begun.0 step.allowed) in
@@ -218,7 +218,7 @@ last_stays u old new es os r stays = absurd r
 
 pub lost_lines_begin : ALostDriversLinesAreABeginning
 lost_lines_begin old mid new es os e o u r stays step gone =
-    let told = told_is_executed old mid es os u r stays in
+    let told = reported_is_executed old mid es os u r stays in
     let l = (each mid e).leaves u o told.after told.there_after in
     let was : told.after.report.connected ≡ true = sym (has_it u mid told.after told.there_after) ∙ last_stays u old mid es os r stays in
     let lost : l.ups.report.connected ≡ false = sym (has_it u (after mid e o) l.ups l.there) ∙ ap (has_driver u) (sym step.leaves) ∙ gone in

@@ -8,7 +8,7 @@ use Rattle.nutcore.specs.declared.event.Fault.TheVariants.{NoSuchUps, AlreadyCon
 use Rattle.nutcore.specs.Ups.{UpsState, after_connecting, after_loss, after_tick}
 use Rattle.nutcore.specs.Step.{Step, connected, disconnected, after_driver_text, after_driver_bytes, after_driver_took, ticked, connected_by, outcome_of, after_by, MayLackMemory}
 use Rattle.nutcore.specs.Calls.{is_connected, done}
-use Rattle.nutcore.specs.Promises.{OfUps, IsTaken, IsTold, IsNotConnected}
+use Rattle.nutcore.specs.Promises.{OfUps, IsTaken, HasReported, IsNotConnected}
 use Rattle.nutcore.proofs.UpsPlaces.{Stands, of_ups, server_agree, changed_to}
 use Rattle.nutcore.proofs.Events.{refused}
 
@@ -60,7 +60,7 @@ bytes_told : (s : ServerState) (u : UpsId) (piece : List ℕ) (m : Option ℕ) (
 unfolding after_driver_bytes
 bytes_told s u piece m x there is = sym (ap (λ (o : Option UpsState). option_map_or (λ x. cond x.report.connected (after_driver_text u (x.unfinished ++ piece) m s) s) o s) there ∙ cond-true _ _ _ is)
 
-pub bytes_fed : (s t : ServerState) (u : UpsId) (piece : List ℕ) (r : Result (Unit {0}) Fault) → IsThere s u true → OfUps u s (λ x. IsTold u (x.unfinished ++ piece) s r t) → Step s (DriverBytes u piece) (done r) t
+pub bytes_fed : (s t : ServerState) (u : UpsId) (piece : List ℕ) (r : Result (Unit {0}) Fault) → IsThere s u true → OfUps u s (λ x. HasReported u (x.unfinished ++ piece) s r t) → Step s (DriverBytes u piece) (done r) t
 unfolding outcome_of after_by MayLackMemory
 bytes_fed s t u piece r h told = let at = told h.ups h.there in grind (arith, bytes_told)
 

@@ -1,4 +1,4 @@
--- All that is proved by going through the events, a case each: what they leave, in its parts; what is said of each alone; and which execute nothing, and leave the sessions as they are.
+-- All that is proved by going through the events, a case each: what they leave, in its parts; what is said of each by itself; and which execute nothing, and leave the sessions as they are.
 use Rattle.std.proofs.Common.{◌≡◌, ℕ, Bool, true, false, List, [], ◌∷◌, ◌++◌, Option, Some, None, refl, sym, ap, subst, cond, eqb, ◌&&◌, not, ◌∙◌, max, length, append-nil, inl, arith, take, drop}
 use Rattle.nutcore.proofs.Common.{option_map_or, UpsId, TrackingState, Event, ServerState, session, ups_at, slice_get, option_map, slice_get-map, Outcome, SessionState, cond-false, Fault, UpsState, after, take-append-drop}
 use Rattle.nutcore.specs.declared.event.Event.TheVariants.{DriverUp, DriverBytes, DriverTook, DriverDown, Tick, Open, Feed, Took, Close, Id}
@@ -10,7 +10,7 @@ use Rattle.nutcore.specs.History.{Execution, executions_until, executions_by, ta
 use Rattle.nutcore.specs.Cost.{cost_of, no_cost}
 use Rattle.nutcore.specs.DriverHistory.{has_driver, came_in_event, heard_in_event}
 use Rattle.nutcore.specs.DriverOrders as telling
-use Rattle.nutcore.specs.DriverOrders.{Telling, dump_all, ping, told_beside_lines, moment_of, told_in_event, texts_of}
+use Rattle.nutcore.specs.DriverOrders.{ServerLine, dump_all, ping, given_beside_lines, moment_of, given_in_event, texts_of}
 use Rattle.nutcore.proofs.DriverText.{ups_after_bytes, changed_both, lines_read, bytes_change}
 use Rattle.nutcore.specs.Pump.{after_all_lines, is_overlong, pumped}
 use Rattle.nutcore.proofs.Changed.{input_absent, of_opened}
@@ -78,11 +78,11 @@ of_session_event P other opens feed took closes (Took c n) = took c n
 of_session_event P other opens feed took closes (Close c) = closes c
 of_session_event P other opens feed took closes e = other e (record { silent = silent e tt; sessions = λ s m. refl; next_id = λ s m. refl })
 
--- what holds of nothing, and of what a driver is told that comes and at its time, holds of what an event tells a driver beside lines
-pub of_told_beside : (u : UpsId) (s : ServerState) (P : List Telling → Type 0) → P [] → ((b : Bool) → P (cond b (dump_all ∷ []) [])) → ((b : Bool) → P (cond b (ping ∷ []) [])) → (e : Event) → P (told_beside_lines u s e)
-of_told_beside u s P none up tick (DriverUp v) = up (eqb v.place u.place && not (has_driver u s))
-of_told_beside u s P none up tick (Tick seconds) = tick (option_map_or (ping_is_due s.max_age (moment_of s seconds)) (ups_at u.place s) false)
-of_told_beside u s P none up tick e = none
+-- what holds of nothing, and of what a driver is given that comes and at its time, holds of what an event gives a driver beside lines
+pub of_given_beside : (u : UpsId) (s : ServerState) (P : List ServerLine → Type 0) → P [] → ((b : Bool) → P (cond b (dump_all ∷ []) [])) → ((b : Bool) → P (cond b (ping ∷ []) [])) → (e : Event) → P (given_beside_lines u s e)
+of_given_beside u s P none up tick (DriverUp v) = up (eqb v.place u.place && not (has_driver u s))
+of_given_beside u s P none up tick (Tick seconds) = tick (option_map_or (ping_is_due s.max_age (moment_of s seconds)) (ups_at u.place s) false)
+of_given_beside u s P none up tick e = none
 
 -- what holds of each change that a driver's event makes of its UPS
 pub record OfDrivers (moment : ℕ) (t : TrackingState) (m : Option ℕ) (Q : (UpsState → UpsState) → Type 0) : Type 0 where
@@ -91,7 +91,7 @@ pub record OfDrivers (moment : ℕ) (t : TrackingState) (m : Option ℕ) (Q : (U
   pub takes : (n : ℕ) → Q (after_driver_took n)
   pub goes : Q disconnected
 
--- what an event leaves: a driver's one UPS changed, and orders that it waits for, a tick time and all UPSs, an id those at hand, the others sessions
+-- what an event leaves: a driver's one UPS changed, and orders that it waits for, a tick time and all UPSs, an id the available ones, the others sessions
 pub of_parts : (s : ServerState) (m : Option ℕ) (Q : (UpsState → UpsState) → Type 0) → OfDrivers s.moment s.tracking m Q → (P : Event → ServerState → Type 0)
     → ((e : Event) (u : UpsId) (f : UpsState → UpsState) (lines : List (List ℕ)) → ups_of e ≡ Some u → client_of e ≡ None → Q f → P e (changed_both f lines u s))
     → ((seconds : ℕ) → P (Tick seconds) (ticked seconds s)) → ((address : List ℕ) → P (Open address) (opened s address m))
@@ -182,12 +182,12 @@ bytes_leave s v piece u o x there =
     rw (bytes_change v piece m s) (of_place (ups_after_bytes s.moment v.place s.tracking piece m) u v s.upses x (Does s.moment u e x (came_in_event u e) (heard_in_event u s e o) [] []) there
     (λ k same. rw (k, there, same) (bytes_do s.moment u _ x s.tracking piece m)) (λ k. rw k (stays_so s.moment u e x)))
 
--- what is said of each alone: where a fault that changes nothing refuses it, all is as it was; and what it leaves of a UPS
+-- what is said of each by itself: where a fault that changes nothing refuses it, all is as it was; and what it leaves of a UPS
 pub record OfEvent (s : ServerState) (e : Event) : Type 0 where
   pub quiet : is_quiet (outcome_of s e) ≡ true → after_by s e None ≡ s
-  pub leaves : (u : UpsId) (o : Outcome) (x : UpsState) → ups_at u.place s ≡ Some x → Stands u.place (after s e o).upses (Does s.moment u e x (came_in_event u e) (heard_in_event u s e o) (told_in_event u s e o) (telling.taken_in_event u s e))
+  pub leaves : (u : UpsId) (o : Outcome) (x : UpsState) → ups_at u.place s ≡ Some x → Stands u.place (after s e o).upses (Does s.moment u e x (came_in_event u e) (heard_in_event u s e o) (given_in_event u s e o) (telling.taken_in_event u s e))
 
--- a UPS that it leaves alone
+-- a UPS that it doesn't change
 left_alone : (s : ServerState) (u : UpsId) (e : Event) (x : UpsState) (xs : List UpsState) → slice_get xs u.place ≡ Some x → Stands u.place xs (Does s.moment u e x [] [] [] [])
 left_alone s u e x xs there = record { ups = x; there = there; is = stays_so s.moment u e x }
 
@@ -197,7 +197,7 @@ each s (DriverUp v) =
     let e : Event = DriverUp v in record {
       quiet = λ h. sym (server_same s v (connected s.moment) (λ x there. up_stays s.moment x x.report.connected (subst (λ (o : Option UpsState). is_quiet (connected_by o) ≡ true) there h)));
       leaves = λ u o x there.
-          of_place (connected s.moment) u v s.upses x (Does s.moment u e x [] [] (told_in_event u s e o) []) there
+          of_place (connected s.moment) u v s.upses x (Does s.moment u e x [] [] (given_in_event u s e o) []) there
           (λ k same. rw (append-nil, k, there) (up_does s.moment u e x x.report.connected refl (ap (λ (w : UpsId). DriverUp w) same))) (λ k. rw (append-nil, k) (stays_so s.moment u e x));
     }
 each s (DriverBytes v piece) =

@@ -1,4 +1,4 @@
--- What is told of a UPS's data is fresh, over every run from a new server.
+-- The data of a UPS that are answered are fresh, over every run from a new server.
 use Rattle.std.proofs.Common.{◌≡◌, ◌⊎◌, ◌≤◌, ◌<◌, ◌+◌, ◌-◌, ◌/◌, ◌∙◌, ℕ, Bool, zero, suc, true, false, List, [], ◌∷◌, ◌++◌, Option, Some, Result, Ok, Err, refl, sym, ap, subst, map, max, length, arith}
 use Rattle.std.specs.Prelude.{codes, nat_eq, slice_get, option_map}
 use Rattle.std.specs.List.{starts_with}
@@ -15,7 +15,7 @@ use Rattle.nutparse.specs.Command.{read_command}
 use Rattle.nutparse.specs.ErrWord.{error_line}
 use Rattle.nutanswer.specs.View.{UpsSeen, readiness, usable}
 use Rattle.nutanswer.specs.Answer.{Answer, answer_to, text_of_answer}
-use Rattle.nutanswer.specs.Laws.{WhatIsToldIsFresh}
+use Rattle.nutanswer.specs.Laws.{WhatIsAnsweredIsFresh}
 use Rattle.nutanswer.proofs.PublicLaws.{a_named_ups_is_seen}
 use Rattle.nutcore.specs.declared.event.Event.TheVariants.{Feed, Took}
 use Rattle.nutcore.specs.declared.TheConstants.{DRIVER_OWED_LIMIT}
@@ -28,7 +28,7 @@ use Rattle.nutcore.specs.Isolation.{ups_of, without_commands, kept_from_clients}
 use Rattle.nutcore.specs.Sound.{IsSoundUps, IsSound, ANewServerIsSound, EveryRunKeepsTheServerSound}
 use Rattle.nutcore.specs.DriverHistory.{bytes_heard}
 use Rattle.nutcore.specs.DriverRuns.{IsNewServer, ConnectedInRun}
-use Rattle.nutcore.specs.FreshRuns.{tick_of, greatest_tick, TheMomentIsTheGreatestTick, lines_since, IsToldFresh, WhateverIsToldIsFresh, WhatADriverSetLastIsHeld, ASilentDriverIsAsked}
+use Rattle.nutcore.specs.FreshRuns.{tick_of, greatest_tick, TheMomentIsTheGreatestTick, lines_since, IsAnsweredFresh, WhateverIsAnsweredIsFresh, WhatADriverSetLastIsHeld, ASilentDriverIsAsked}
 use Rattle.nutcore.proofs.Addresses.{run_keeps_list}
 use Rattle.nutcore.proofs.DriverRuns.{since_connecting}
 use Rattle.nutcore.proofs.Changed.{of_opened}
@@ -131,7 +131,7 @@ answer_there s c line command read kind = by_answer (answer_to (seen s) (asker c
         let never : true ≡ false = sym begins ∙ ap (λ (w : List ℕ). starts_with nat_eq w (codes "ERR")) (sym text) ∙ kind in
         cc never
 
-module _ (told : WhatIsToldIsFresh) (opening : ANewServerIsSound) (keeps : EveryRunKeepsTheServerSound) (old : ServerState) (is_new : IsNewServer old) where
+module _ (told : WhatIsAnsweredIsFresh) (opening : ANewServerIsSound) (keeps : EveryRunKeepsTheServerSound) (old : ServerState) (is_new : IsNewServer old) where
   sound_old : IsSound old
   sound_old = subst IsSound (sym is_new.is) (opening is_new.list is_new.users is_new.descriptions is_new.max_age is_new.is_list is_new.are_lawful is_new.is_max_age)
 
@@ -140,7 +140,7 @@ module _ (told : WhatIsToldIsFresh) (opening : ANewServerIsSound) (keeps : Every
   there_before t es os p x r there =
       let list = ap (λ xs. length xs) (run_keeps_list old t es os r) in omega (arith, list, slice_get_within t.upses p x there, (keeps old t es os r sound_old).named, sound_old.named)
 
-  -- what a UPS's driver told since it connected is what it told a UPS that has its report and its rest
+  -- what a UPS's driver reported since it connected is what it reported to a UPS that has its report and its rest
   same_driver : (u : UpsId) (es : List Event) (os : List Outcome) (x y : UpsState) → without_commands x ≡ without_commands y → ConnectedInRun u old es os y → ConnectedInRun u old es os x
   same_driver u es os x y same k = record {
     events_before = k.events_before;
@@ -165,7 +165,7 @@ module _ (told : WhatIsToldIsFresh) (opening : ANewServerIsSound) (keeps : Every
     };
   }
 
-  line_fresh : (es : List Event) (os : List Outcome) (x : Execution) → IsTimely old es os x → IsToldFresh old es os x
+  line_fresh : (es : List Event) (os : List Outcome) (x : Execution) → IsTimely old es os x → IsAnsweredFresh old es os x
   line_fresh es os (of_notice c) t = tt
   line_fresh es os (of_line s c line) t = λ command ups read asks kind.
       let (answer, given) = answer_there s c line command read kind in
@@ -212,15 +212,15 @@ module _ (told : WhatIsToldIsFresh) (opening : ANewServerIsSound) (keeps : Every
         };
       }
 
-pub whatever_is_told_is_fresh : WhatIsToldIsFresh → ANewServerIsSound → EveryRunKeepsTheServerSound → WhateverIsToldIsFresh
-whatever_is_told_is_fresh told opening keeps old new es os is_new r =
-    All-weaker (IsTimely old es os) (IsToldFresh old es os) (line_fresh told opening keeps old is_new es os) _ (each_answer_timely old new es os r)
+pub whatever_is_answered_is_fresh : WhatIsAnsweredIsFresh → ANewServerIsSound → EveryRunKeepsTheServerSound → WhateverIsAnsweredIsFresh
+whatever_is_answered_is_fresh told opening keeps old new es os is_new r =
+    All-weaker (IsTimely old es os) (IsAnsweredFresh old es os) (line_fresh told opening keeps old is_new es os) _ (each_answer_timely old new es os r)
 
 -- what a driver set last
 pub set_last_is_held : TheLastLineOnAVariableDecidesIt → WhatADriverSetLastIsHeld
 set_last_is_held decides old es os u now name k = grind arith
 
--- a tick asks who told nothing for a third of the greatest age
+-- a tick asks who reported nothing for a third of the greatest age
 abbrev IsAskedOrFull : UpsState → Type 0
 IsAskedOrFull x = (x.report.heard < x.pinged) ⊎ (DRIVER_OWED_LIMIT < length x.owed + length ping_line)
 

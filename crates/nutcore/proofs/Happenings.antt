@@ -9,7 +9,7 @@ use Rattle.nutcore.specs.Reply.{seen, seen_client, reply, changed_session, after
 use Rattle.nutcore.specs.Pump.{next_line_for, answered, after_line, is_overlong, notified}
 use Rattle.nutcore.specs.Step.{joined, with_input, taken_from, without_output, may_take, pumped_until, after_by, refused_after}
 use Rattle.nutcore.specs.History.{Execution, of_line, of_notice, client_of, text_of, executions_until, executions_by, executions, of_client, texts_of, answers}
-use Rattle.nutcore.specs.Happenings.{Happening, line_is_executed, notice_is_told, event_comes, happening_of, happened_in_event, happenings, without_bytes, apart_from_bytes, AnswersComeOfWhatHappens, IsAlike, AReplyComesOfWhatIsSeen}
+use Rattle.nutcore.specs.Happenings.{Happening, line_is_executed, notice_is_sent, event_comes, happening_of, happened_in_event, happenings, without_bytes, apart_from_bytes, AnswersComeOfWhatHappens, IsAlike, AReplyComesOfWhatIsSeen}
 use Rattle.nutcore.proofs.Changed.{by_change, change_is}
 use Rattle.nutcore.proofs.Events.{core_event}
 use Rattle.nutcore.proofs.Found.{find_id, mapped_put}
@@ -53,13 +53,13 @@ core_output : (s : ServerState) (c n : ℕ) → apart_from_bytes (without_output
 unfolding without_output
 core_output s c n = core_bytes (taken_from n) (λ x. refl) (λ x. refl) s c
 
--- what a client was told, and the server, before a happening and after it
+-- what a client was answered, and the server, before a happening and after it
 abbrev heard : List ℕ → ServerState → List ℕ × ServerState
 heard texts k = (texts, k)
 
 abbrev happen : ℕ → List ℕ × ServerState → Happening → List ℕ × ServerState
 happen c z (line_is_executed d line) = heard (z.0 ++ cond (eqb d c) (reply z.1 d line) []) (after_change z.1 d line)
-happen c z (notice_is_told d) = heard (z.0 ++ cond (eqb d c) too_long_notice []) (with_session_changed begin_ending d z.1)
+happen c z (notice_is_sent d) = heard (z.0 ++ cond (eqb d c) too_long_notice []) (with_session_changed begin_ending d z.1)
 happen c z (event_comes e m) = heard z.0 (after_by z.1 e m)
 
 -- the line and the notice
@@ -73,7 +73,7 @@ core_notice s c long =
     let due = overlong_there (session c s) long in
     rw (change_is notified c s due.0 due.1, change_is begin_ending c (apart_from_bytes s) (without_bytes due.0) (found_without c s.sessions ∙ ap (option_map without_bytes) due.1), put_without)
 
--- happenings lead from a server to another, and tell each client what these executions do
+-- happenings lead from a server to another, and answer each client as these executions do
 abbrev Leads : ServerState → List Happening → List Execution → ServerState → Type 0
 Leads s hs xs t = (c : ℕ) (before : List ℕ) → fold (happen c) (heard before (apart_from_bytes s)) hs ≡ heard (before ++ texts_of (of_client c xs)) (apart_from_bytes t)
 

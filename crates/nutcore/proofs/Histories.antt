@@ -150,7 +150,7 @@ module _ (R : Presence → List Execution → List ℕ → List ℕ → Presence
   unmoved : (p q : Presence) → q ≡ p → R p [] [] [] q
   unmoved p q e = subst (R p [] [] []) (sym e) (h.stays p.session p.used p.used (λ used. used))
 
-  -- what changes a session, changes it for its client alone
+  -- what changes a session, changes it only for its client
   changing : (Q : Bool → Presence → Presence → Type 0) (f : SessionState → SessionState) → ((x : SessionState) → (f x).id ≡ x.id) → (d : ℕ) (s : ServerState)
       → Q true (presence d s) (at_client s d (option_map f (session d s))) → Q false (presence c s) (presence c s) → Q (eqb d c) (presence c s) (presence c (with_session_changed f d s))
   changing Q f id d s own other = own_or_other c d (λ z b. Q b (presence z s) (presence z (with_session_changed f d s)))

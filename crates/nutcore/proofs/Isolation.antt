@@ -91,7 +91,7 @@ each_settles place id number xs ys h = absurd h
 
 end_settles : (place : ℕ) (o : Option OrderEnd) (xs : List TrackedOrder) (t : TrackingState) → MaySettleEach place xs t.orders → MaySettleEach place xs (with_end place o t).orders
 end_settles place None xs t h = h
-end_settles place (Some told) xs t h = each_settles place told.id told.number xs t.orders h
+end_settles place (Some e) xs t h = each_settles place e.id e.number xs t.orders h
 
 none_settles : (place : ℕ) (xs : List TrackedOrder) → MaySettleEach place xs xs
 none_settles place [] = tt

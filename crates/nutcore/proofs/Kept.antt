@@ -55,7 +55,7 @@ module _ (P : ServerState → Type 0) (kept : IsPumped P) where
   unfolding without_output
   by_take s c n m h = cond_both (may_take (session c s) n) _ s P (λ e. by_pump c (without_output s c n) m (kept.gives s c n h)) (λ e. h)
 
--- what each end that a line tells keeps, the ends that some lines tell keep
+-- what each end that a line reports keeps, the ends that some lines report keep
 pub of_ends : (place : ℕ) (P : TrackingState → Type 0) → ((line : List ℕ) (t : TrackingState) → P t → P (with_end place (end_in line) t)) → (lines : List (List ℕ)) (t : TrackingState) → P t → P (after_ends place lines t)
 of_ends place P keeps [] t h = h
 of_ends place P keeps (line ∷ lines) t h = of_ends place P keeps lines (with_end place (end_in line) t) (keeps line t h)

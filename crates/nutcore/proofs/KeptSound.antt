@@ -37,7 +37,7 @@ pub answered_kept : (change : Change) (text : List ℕ) (x y : SessionState) (en
     IsSoundSession x → IsSoundSession y
 answered_kept change text x y end going is h = grind (arith, sound_answered)
 
--- it is told that its line is too long, or stays
+-- its line is too long, or it stays
 pub noticed_kept : (x y : SessionState) → y ≡ with_notice x → IsSoundSession x → IsSoundSession y
 noticed_kept x y e h = subst IsSoundSession (sym e) (sound_notice x h)
 
@@ -55,7 +55,7 @@ pub ups_kept : (v : ServerState) (u : UpsId) (x y : UpsState) → ups_at u.place
 ups_kept v u x y there keeps h =
     subst IsSound (sym (server_set v u (λ z. y) x y there refl)) (sound_upses (λ z. y) u v (of_ups v u x (λ z. IsSoundUps v.moment z → IsSoundUps v.moment y) there keeps) h)
 
--- what a call does to a UPS is said of what it was lent and left
+-- what a call does to a UPS is said of what it borrowed and left
 pub of_call : {F R : Type 0} {g : Once F (MutBor UpsState × Unit {0}) (R × (MutBor UpsState × Unit {0}))} {f : F} {x y : UpsState} {r : R} (P : UpsState → UpsState → Type 0) (called : FnOnceReturnsAtMut g f x r y) → P called.shown.now called.left.now → P x y
 of_call {y = y} P called p = subst (λ (z : UpsState). P z y) called.shows (subst (P called.shown.now) called.leaves p)
 

@@ -51,7 +51,7 @@ mod DriverRuns
 mod FreshRuns
 mod TrackedRuns
 mod OrdersByRight
-mod TellingLines
+mod ServerLines
 mod ReadsBack
 mod Addresses
 mod NotedRuns

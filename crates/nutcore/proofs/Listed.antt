@@ -22,7 +22,7 @@ use Rattle.nutparse.specs.declared.err_word.ErrWord.{ErrWord}
 use Rattle.nutparse.specs.declared.err_word.ErrWord.TheVariants.{VarNotSupported}
 use Rattle.nutanswer.specs.View.{Seen, UpsSeen}
 use Rattle.nutanswer.specs.Checks.{◌>>=◌, ◌>>◌, KnownUps, ups_named, unknown_ups, live, var_not_supported}
-use Rattle.nutanswer.specs.Answer.{Answer, listing, told, text_of_answer}
+use Rattle.nutanswer.specs.Answer.{Answer, listing, in_one_line, text_of_answer}
 use Rattle.nutcore.specs.Server.{ServerState}
 use Rattle.nutcore.specs.Reply.{seen, seen_ups, text_to}
 use Rattle.nutcore.specs.Sound.{Each, IsSoundUps, IsSound}
@@ -99,6 +99,6 @@ listed_is_held = record {
     λ (e, writable). passed is_rw tree.variables (name, variable) ((held_by tree.variables name variable sound.names_rise.rising).1 e) writable,
   );
   commands = λ tree name sound. (λ h. list_any-from_Contains (eq_by_cmp_equiv nat_list_cmp_total) name tree.commands h, λ e. Contains-from_any one_name name tree.commands e);
-  got = λ s c line ups name u variable read asks there. ap (text_to s c) read ∙ ap text_of_answer (variable_row s ups u name (Some variable) (λ k v. told (variable_item (codes "VAR") k.name k.state.fsd v)) asks there);
-  refused = λ s c line ups name u read asks there. ap (text_to s c) read ∙ ap text_of_answer (variable_row s ups u name None (λ k v. told (variable_item (codes "VAR") k.name k.state.fsd v)) asks there);
+  got = λ s c line ups name u variable read asks there. ap (text_to s c) read ∙ ap text_of_answer (variable_row s ups u name (Some variable) (λ k v. in_one_line (variable_item (codes "VAR") k.name k.state.fsd v)) asks there);
+  refused = λ s c line ups name u read asks there. ap (text_to s c) read ∙ ap text_of_answer (variable_row s ups u name None (λ k v. in_one_line (variable_item (codes "VAR") k.name k.state.fsd v)) asks there);
 }

@@ -1,4 +1,4 @@
--- What goes on holding of a server and of what was executed before, over a run; so what lines alone bring about, one of them brought about.
+-- What goes on holding of a server and of what was executed before, over a run; so what only lines bring about, one of them brought about.
 use Rattle.std.proofs.Common.{◌≡◌, ◌⊎◌, ℕ, List, [], ◌∷◌, ◌++◌, Option, Some, refl, sym, ◌∙◌, ap, subst, append_assoc, append-nil, inl, inr}
 use Rattle.nutcore.proofs.Common.{Event, Outcome, ServerState, with_session_changed, Run}
 use Rattle.nutcore.specs.Pump.{next_line_for, after_line, notified}
@@ -75,7 +75,7 @@ module _ {Holds : List Execution → ServerState → Type 0} (goes : GoesOn Hold
     held_at front back s d line e =
         each_at HeldAt [] front back (of_line s d line) (subst (EachWith HeldAt []) e ((run_keeps 0 (λ s xs taken asked t. Leads s xs t) leads start t es os r).each [] begins))
 
--- what such lines alone bring about: a line may, and nothing else does
+-- what only such lines bring about: a line may, and nothing else does
 pub record IsMark (IsSo : ServerState → Type 0) (Sets : Execution → Type 0) : Type 0 where
   pub line : (s : ServerState) (d : ℕ) (line : List ℕ) → next_line_for s d ≡ Some line → IsSo (after_line s d) → IsSo s ⊎ Sets (of_line s d line)
   pub notice : (s : ServerState) (d : ℕ) → IsSo (with_session_changed notified d s) → IsSo s

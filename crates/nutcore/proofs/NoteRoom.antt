@@ -27,7 +27,7 @@ use Rattle.nutcore.specs.Reply.{reply, change_by}
 use Rattle.nutcore.specs.Pump.{answered, after_all_lines, held_of}
 use Rattle.nutcore.specs.Step.{accepted_bytes, with_input, without_output, may_take, refused_after}
 use Rattle.nutcore.specs.History.{Execution, of_line, of_client, executions_until, executions_by, asked_in_event}
-use Rattle.nutcore.specs.Notes.{is_told, refusal_in, note_of_command, note_read, note_of, note_of_notice, notes_of_lines, notes_of_pump, logout_of, refusal_note, status_note, data_note, notes_between, look_at, tick_note, tick_notes, all_notes, NoNoteIsCut}
+use Rattle.nutcore.specs.Notes.{is_noted, refusal_in, note_of_command, note_read, note_of, note_of_notice, notes_of_lines, notes_of_pump, logout_of, refusal_note, status_note, data_note, notes_between, look_at, tick_note, tick_notes, all_notes, NoNoteIsCut}
 use Rattle.nutcore.specs.Sound.{IsSound}
 use Rattle.nutcore.proofs.Bounded.{held_sound, accepted_few}
 use Rattle.nutcore.proofs.Changes.{keeps}
@@ -85,7 +85,7 @@ told_few true None text line = omega arith
 told_few true (Some x) text line = read_few x text line
 
 line_few : (s : ServerState) (c : ℕ) (line : List ℕ) → 4 * length (notes_of_lines (of_line s c line ∷ [])) ≤ length line + 1
-line_few s c line = told_few (is_told (reply s c line) (change_by s c (read_command line))) (session c s) (reply s c line) line
+line_few s c line = told_few (is_noted (reply s c line) (change_by s c (read_command line))) (session c s) (reply s c line) line
 
 -- each note had four bytes that were held or came
 pub record HasBytes (before : Presence) (xs : List Execution) (taken asked : List ℕ) (after : Presence) : Type 0 where

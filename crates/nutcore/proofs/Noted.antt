@@ -31,12 +31,12 @@ skip f None notes none = refl
 skip f (Some note) notes none = ap (λ x. cons_option x (filter_map f notes)) none
 
 -- how the data stand is noted where they stood otherwise
-pub told_or_same : (u : UpsId) (was is : DataState) → ((data_note u was is ≡ None) × (is ≡ was)) ⊎ ((data_note u was is ≡ Some (Data u is)) × (is ≢ was))
-told_or_same u states.Lost states.Lost = inl (refl, refl)
-told_or_same u states.Awaited states.Awaited = inl (refl, refl)
-told_or_same u states.Good states.Good = inl (refl, refl)
-told_or_same u states.Stale states.Stale = inl (refl, refl)
-told_or_same u was is = inr (refl, λ e. cc e)
+pub noted_or_same : (u : UpsId) (was is : DataState) → ((data_note u was is ≡ None) × (is ≡ was)) ⊎ ((data_note u was is ≡ Some (Data u is)) × (is ≢ was))
+noted_or_same u states.Lost states.Lost = inl (refl, refl)
+noted_or_same u states.Awaited states.Awaited = inl (refl, refl)
+noted_or_same u states.Good states.Good = inl (refl, refl)
+noted_or_same u states.Stale states.Stale = inl (refl, refl)
+noted_or_same u was is = inr (refl, λ e. cc e)
 
 -- what is read of no note of a UPS
 pub record IsBlind {X : Type 0} (f : Note → Option X) : Type 0 where
@@ -46,7 +46,7 @@ pub record IsBlind {X : Type 0} (f : Note → Option X) : Type 0 where
 
 module _ {X : Type 0} (f : Note → Option X) (blind : IsBlind f) where
   blind_data : (u : UpsId) (was is : DataState) → option_and_then f (data_note u was is) ≡ None
-  blind_data u was is = elim (told_or_same u was is) [ inl same ↦ rw same.0 refl | inr told ↦ rw told.0 (blind.state u is) ]
+  blind_data u was is = elim (noted_or_same u was is) [ inl same ↦ rw same.0 refl | inr told ↦ rw told.0 (blind.state u is) ]
 
   blind_refused : (u : UpsId) (was is : Look) → option_and_then f (refusal_note u was is) ≡ None
   blind_refused u was is = cond_both (eqb is.refused was.refused) None _ (λ o. option_and_then f o ≡ None) (λ e. refl) (λ e. blind.refused u _ is.fault)

@@ -21,15 +21,15 @@ use Rattle.nutcore.specs.Reply.{reply, change_by}
 use Rattle.nutcore.specs.Step.{with_input, without_output, may_take, connected, disconnected, after_driver_took, pumped_until, after_by, ticked, refused_after}
 use Rattle.nutcore.specs.History.{Execution, of_line, of_notice, executions_until}
 use Rattle.nutcore.specs.Isolation.{without_commands, kept_from_clients}
-use Rattle.nutcore.specs.Notes.{is_told, logout_of, note_of_command, note_read, note_of, notes_of_lines, notes_of_pump, data_state_of, look_of, refusal_note, status_note, data_note, notes_between, look_at, tick_note, tick_notes, all_notes}
+use Rattle.nutcore.specs.Notes.{is_noted, logout_of, note_of_command, note_read, note_of, notes_of_lines, notes_of_pump, data_state_of, look_of, refusal_note, status_note, data_note, notes_between, look_at, tick_note, tick_notes, all_notes}
 use Rattle.nutcore.specs.NotedRuns.{Leads, data_at, data_in}
 use Rattle.nutcore.proofs.Changed.{of_opened}
 use Rattle.nutcore.proofs.DriverText.{changed_both, ups_after_bytes, lines_read, bytes_change}
 use Rattle.nutcore.proofs.Isolation.{masked_at, own}
-use Rattle.nutcore.proofs.Noted.{leads_nowhere, skip, told_or_same, deaf_close, deaf_pump}
+use Rattle.nutcore.proofs.Noted.{leads_nowhere, skip, noted_or_same, deaf_close, deaf_pump}
 use Rattle.nutcore.proofs.UpsPlaces.{same_ups, changed_there, other_ups}
 
--- what the notes of an event tell of the UPS
+-- what the notes of an event say of the UPS
 abbrev Tells : UpsId → ServerState → List Note → ServerState → Type 0
 Tells u s notes t = Leads (data_at u s) (filter_map (data_in u) notes) (data_at u t)
 
@@ -37,14 +37,14 @@ silent : (u : UpsId) (s t : ServerState) (notes : List Note) → filter_map (dat
 silent u s t notes none same = leads_nowhere (data_at u s) (data_at u t) (filter_map (data_in u) notes) none same
 
 noted : (u : UpsId) (was is : DataState) → Leads was (filter_map (data_in u) (cons_option (data_note u was is) [])) is
-noted u was is = elim (told_or_same u was is) [
+noted u was is = elim (noted_or_same u was is) [
   | inl same ↦ rw same.0 same.1
   | inr told ↦ rw (told.0, eq-eqb u.place u.place refl) (told.1, refl)
 ]
 
 -- of another UPS nothing is noted
 not_noted : (u v : UpsId) (was is : DataState) → eqb v.place u.place ≡ false → option_and_then (data_in u) (data_note v was is) ≡ None
-not_noted u v was is other = elim (told_or_same v was is) [
+not_noted u v was is other = elim (noted_or_same v was is) [
   | inl same ↦ rw same.0 refl
   | inr told ↦ rw (told.0, other) refl
 ]
@@ -159,7 +159,7 @@ of_told u true (Some x) r text = of_read u x r text
 lines_silent : (u : UpsId) (xs : List Execution) → filter_map (data_in u) (notes_of_lines xs) ≡ []
 lines_silent u [] = refl
 lines_silent u (of_line s c line ∷ xs) =
-    skip (data_in u) (note_of (of_line s c line)) (notes_of_lines xs) (of_told u (is_told (reply s c line) (change_by s c (read_command line))) (session c s) (read_command line) (reply s c line)) ∙ lines_silent u xs
+    skip (data_in u) (note_of (of_line s c line)) (notes_of_lines xs) (of_told u (is_noted (reply s c line) (change_by s c (read_command line))) (session c s) (read_command line) (reply s c line)) ∙ lines_silent u xs
 lines_silent u (of_notice c ∷ xs) = lines_silent u xs
 
 pump_silent : (u : UpsId) (s : ServerState) (c : ℕ) (m : Option ℕ) → filter_map (data_in u) (notes_of_pump s c m) ≡ []

@@ -28,7 +28,7 @@ use Rattle.nutcore.specs.Reply.{seen, asker, asker_of, reply, text_to, change_by
 use Rattle.nutcore.specs.Pump.{next_line_for, answered, after_line, after_lines, after_all_lines, after_notice, is_overlong, holds_overlong, notified, with_notice, pumped, held_of}
 use Rattle.nutcore.specs.Step.{joined, with_input, taken_from, without_output, may_take, pumped_until, after_by, ticked, refused_after}
 use Rattle.nutcore.specs.History.{Execution, of_line, next_execution, lines_executed, notice, pump_executions, executions_until}
-use Rattle.nutcore.specs.Notes.{is_told, refusal_in, who_of, logout_of, did, note_of_command, note_read, note_of, note_of_notice, notes_of_lines, notes_of_pump, look_at, all_notes}
+use Rattle.nutcore.specs.Notes.{is_noted, refusal_in, who_of, logout_of, did, note_of_command, note_read, note_of, note_of_notice, notes_of_lines, notes_of_pump, look_at, all_notes}
 use Rattle.nutcore.specs.NotedRuns.{Leads, login_at, is_login, ups_called, login_in}
 use Rattle.nutcore.proofs.Changed.{by_change, of_opened, session_changed, presence_other, either_notice}
 use Rattle.nutcore.proofs.DriverText.{bytes_change}
@@ -42,7 +42,7 @@ use Rattle.nutcore.proofs.Pumping.{is_next, after_line_is, other_after_line, sto
 abbrev login : Option SessionState → Option UpsId
 login o = option_and_then (λ x. x.login) o
 
--- what the notes of an event tell of the client's login
+-- what the notes of an event say of the client's login
 abbrev Logs : List Ups → ℕ → ServerState → List Note → ServerState → Type 0
 Logs list c s notes t = Leads (login_at c s) (filter_map (login_in list c) notes) (login_at c t)
 
@@ -90,7 +90,7 @@ is_free (Some v) u h = cc h
 module _ (list : List Ups) (s : ServerState) (c : ℕ) (x y : SessionState) (is : s.list ≡ list) (its : eqb x.id c ≡ true) (found : session c s ≡ Some x) (same : y.login ≡ x.login) where
   -- what is noted of a line that is answered so, and what it leaves
   abbrev Answers : (List ℕ → Option Note) → Result Answer ErrWord → Type 0
-  Answers note a = Leads x.login (filter_map (login_in list c) (cons_option (cond (is_told (text_of_answer a) (change_of_answer a)) (note (text_of_answer a)) None) [])) (changed_session (change_of_answer a) y).login
+  Answers note a = Leads x.login (filter_map (login_in list c) (cons_option (cond (is_noted (text_of_answer a) (change_of_answer a)) (note (text_of_answer a)) None) [])) (changed_session (change_of_answer a) y).login
 
   mute : (b : Bool) (o : Option Note) → option_and_then (login_in list c) o ≡ None → filter_map (login_in list c) (cons_option (cond b o None) []) ≡ []
   mute true o none = skip (login_in list c) o [] none
@@ -103,7 +103,7 @@ module _ (list : List Ups) (s : ServerState) (c : ℕ) (x y : SessionState) (is 
   login_refused : (ups : Option (List ℕ)) (w : ErrWord) → Answers (login_note ups) (Err w)
   login_refused ups w =
       let none : option_and_then (login_in list c) (login_note ups (error_line w)) ≡ None = subst (λ (r : Option (List ℕ)). option_and_then (login_in list c) (did x r verbs.Login ups None) ≡ None) (sym (refused w).1) refl in
-      leads_nowhere x.login y.login _ (mute (is_told (error_line w) changes.Nothing) (login_note ups (error_line w)) none) same
+      leads_nowhere x.login y.login _ (mute (is_noted (error_line w) changes.Nothing) (login_note ups (error_line w)) none) same
 
   -- or granted
   fresh : (u : Unit {0}) → already_logged_in (asker c s) ≡ Ok u → x.login ≡ None
@@ -134,7 +134,7 @@ module _ (list : List Ups) (s : ServerState) (c : ℕ) (x y : SessionState) (is 
       → Answers (λ text. note_of_command x (refusal_in text) command) (answer_to (seen s) (asker c s) command)
   by_other command other none =
       let a : Result Answer ErrWord = answer_to (seen s) (asker c s) command in
-      leads_nowhere x.login (changed_session (change_of_answer a) y).login _ (mute (is_told (text_of_answer a) (change_of_answer a)) (note_of_command x (refusal_in (text_of_answer a)) command) (none (refusal_in (text_of_answer a))))
+      leads_nowhere x.login (changed_session (change_of_answer a) y).login _ (mute (is_noted (text_of_answer a) (change_of_answer a)) (note_of_command x (refusal_in (text_of_answer a)) command) (none (refusal_in (text_of_answer a))))
       (stays command (change_of_answer a) other (each_change_comes_of_its_command (seen s) (asker c s) command) ∙ same)
 
   by_command : (command : Command) → Answers (λ text. note_of_command x (refusal_in text) command) (answer_to (seen s) (asker c s) command)
@@ -143,9 +143,9 @@ module _ (list : List Ups) (s : ServerState) (c : ℕ) (x y : SessionState) (is 
   by_command command = by_other command refl (λ refusal. refl)
 
   by_read : (r : Result (Option Command) ErrWord)
-      → Leads x.login (filter_map (login_in list c) (cons_option (cond (is_told (text_to s c r) (change_by s c r)) (note_read x r (text_to s c r)) None) [])) (changed_session (change_by s c r) y).login
-  by_read (Err w) = leads_nowhere x.login y.login _ (mute (is_told (text_to s c (Err w)) changes.Nothing) None refl) same
-  by_read (Ok None) = leads_nowhere x.login y.login _ (mute (is_told [] changes.Nothing) None refl) same
+      → Leads x.login (filter_map (login_in list c) (cons_option (cond (is_noted (text_to s c r) (change_by s c r)) (note_read x r (text_to s c r)) None) [])) (changed_session (change_by s c r) y).login
+  by_read (Err w) = leads_nowhere x.login y.login _ (mute (is_noted (text_to s c (Err w)) changes.Nothing) None refl) same
+  by_read (Ok None) = leads_nowhere x.login y.login _ (mute (is_noted [] changes.Nothing) None refl) same
   by_read (Ok (Some command)) = by_command command
 
 -- what is noted of another client's line says nothing of this one
@@ -164,13 +164,13 @@ other_told list c true (Some x) r text other = other_read list c x r text (other
 line_logs : (list : List Ups) (c d : ℕ) (s : ServerState) (line : List ℕ) → s.list ≡ list → next_line_for s d ≡ Some line → Logs list c s (cons_option (note_of (of_line s d line)) []) (after_line s d)
 line_logs list c d s line is next =
     let n = is_next s d line next in
-    let told : Bool = is_told (reply s d line) (change_by s d (read_command line)) in
+    let told : Bool = is_noted (reply s d line) (change_by s d (read_command line)) in
     own_or_other c d (λ z b. Logs list z s (cons_option (note_of (of_line s d line)) []) (after_line s d))
     (subst (λ (o : Option SessionState). Leads (login o) (filter_map (login_in list d) (cons_option (cond told (option_and_then (λ x. note_read x (read_command line) (reply s d line)) o) None) [])) (login (session d (after_line s d)))) (sym n.found)
     (subst (λ (o : Option SessionState). Leads n.asking.login (filter_map (login_in list d) (cons_option (cond told (note_read n.asking (read_command line) (reply s d line)) None) [])) (login o)) (sym (found_after_line s d line n.asking n.found next))
     (by_read list s d n.asking (answered line (reply s d line) n.asking) is (its_id d s n.asking n.found) n.found refl (read_command line))))
     (λ differ. leads_nowhere (login_at c s) (login_at c (after_line s d)) _
-    (skip (login_in list c) (note_of (of_line s d line)) [] (other_told list c (is_told (reply s d line) (change_by s d (read_command line))) (session d s) (read_command line) (reply s d line) (λ x found. others_id c d s x found differ)))
+    (skip (login_in list c) (note_of (of_line s d line)) [] (other_told list c (is_noted (reply s d line) (change_by s d (read_command line))) (session d s) (read_command line) (reply s d line) (λ x found. others_id c d s x found differ)))
     (ap (λ (p : Presence). login p.session) (other_after_line c d s line next differ)))
 
 split : {X : Type 0} (f : Note → Option X) (o : Option Note) (notes : List Note) → filter_map f (cons_option o notes) ≡ filter_map f (cons_option o []) ++ filter_map f notes

@@ -25,7 +25,7 @@ use Rattle.nutcore.specs.History.{Execution, next_execution, lines_executed, not
 use Rattle.nutcore.specs.Notes.{note_of, notes_of_lines, notes_of_pump, note_of_notice, logout_of, refusal_note, status_note, data_note, notes_between, look_at, look_of, tick_note, tick_notes, IsNoted}
 use Rattle.nutcore.specs.Cost.{RunningServer}
 use Rattle.nutcore.specs.declared.event.Outcome.{Outcome}
-use Rattle.nutcore.specs.Promises.{Replies, refused_overlong, note_in_reply, with_note, told_next, with_next, with_changes, OfUps}
+use Rattle.nutcore.specs.Promises.{Replies, refused_overlong, note_in_reply, with_note, next_note, with_next, with_changes, OfUps}
 use Rattle.nutcore.proofs.Loops.{none_of, stopped_line, all_lines_are}
 use Rattle.nutcore.proofs.EventSteps.{input_absent}
 use Rattle.nutcore.proofs.DriverSteps.{IsThere}
@@ -69,7 +69,7 @@ take_onto (suc n) (x ∷ xs) ys = cc (take_onto n xs ys)
 pub one_noted : (xs : List Note) (o : Option Note) (notes : List Note) → notes ≡ take NOTE_LIMIT xs → with_note o notes ≡ take NOTE_LIMIT (xs ++ cons_option o [])
 one_noted xs o notes e = grind (arith, take_onto NOTE_LIMIT xs, append-nil)
 
-next_notes : (s : ServerState) (c : ℕ) (o : Option (List ℕ)) → cons_option (told_next s c o) [] ≡ filter_map note_of (next_execution s c o)
+next_notes : (s : ServerState) (c : ℕ) (o : Option (List ℕ)) → cons_option (next_note s c o) [] ≡ filter_map note_of (next_execution s c o)
 next_notes s c o = grind arith
 
 -- it goes on
@@ -78,7 +78,7 @@ unfolding lines_executed
 noted_next s t c k notes notes' e so_far more =
     let next : Option (List ℕ) = next_line_for t c in
     let xs : List Execution = lines_executed k s c in
-    cc (one_noted (filter_map note_of xs) (told_next t c next) notes so_far, next_notes t c next, filter_map-append note_of xs (next_execution t c next), append-nil (next_execution t c next), executed-add k 1 s c)
+    cc (one_noted (filter_map note_of xs) (next_note t c next) notes so_far, next_notes t c next, filter_map-append note_of xs (next_execution t c next), append-nil (next_execution t c next), executed-add k 1 s c)
 
 -- it ends: all lines are done
 pub noted_all : (s t : ServerState) (c k : ℕ) (x : SessionState) (r : Result (Unit {0}) Fault) (notes notes' : List Note) → t ≡ after_lines k s c → k ≤ length (held_of (session c s)) → next_line_for t c ≡ None → session c t ≡ Some x → r ≡ refused_overlong (holds_overlong x)

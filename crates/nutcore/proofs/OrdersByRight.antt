@@ -1,4 +1,4 @@
--- The orders that a run told are those of its lines that are by right.
+-- The orders that a run gave are those of its lines that are by right.
 use Rattle.std.proofs.Common.{arith, ◌≡◌, ◌∙◌, append_assoc, ℕ, Bool, List, [], ◌∷◌, ◌++◌, Option, Some, None, Ok, refl, sym, ap, subst, cond, inl, inr}
 use Rattle.std.specs.List.{flat_map}
 use Rattle.std.proofs.lemmas.Grind.{flat_map-append}
@@ -15,9 +15,9 @@ use Rattle.nutanswer.specs.Orders.{right_to, set_line, instcmd_line, ok_words, o
 use Rattle.nutanswer.specs.Answer.{answer_to, change_of_answer}
 use Rattle.nutcore.specs.Reply.{seen, asker, change_by, text_to}
 use Rattle.nutcore.specs.History.{Execution, of_line, of_notice, executions_in_event, executions}
-use Rattle.nutcore.specs.DriverOrders.{Telling, dump_all, ping, order, told_by_change, told_by_line, told_beside_lines, told_in_event, taken_in_event, is_lost_by, Connections, in_front, connections}
-use Rattle.nutcore.specs.OrdersByRight.{IsOrderByRight, AreOrdersByRight, none_left, given, passed_over, order_of, all_told, orders_told, EachOrderIsByRight}
-use Rattle.nutcore.proofs.Events.{of_told_beside}
+use Rattle.nutcore.specs.DriverOrders.{ServerLine, dump_all, ping, order, given_by_change, given_by_line, given_beside_lines, given_in_event, taken_in_event, is_lost_by, Connections, in_front, connections}
+use Rattle.nutcore.specs.OrdersByRight.{IsOrderByRight, AreOrdersByRight, none_left, given, passed_over, order_of, all_given, orders_given, EachOrderIsByRight}
+use Rattle.nutcore.proofs.Events.{of_given_beside}
 use Rattle.nutcore.proofs.Changes.{of_upses}
 use Rattle.nutcore.proofs.UpsPlaces.{same_ups}
 use Rattle.nutanswer.proofs.PublicLaws.{each_order_answered_ok_is_given}
@@ -62,28 +62,28 @@ by_read s c line u v bytes id place change =
     ])
 
 -- and a line that is by right gives its order
-told_order : (u v : UpsId) (bytes : List ℕ) (id : Option ℕ) → v ≡ u → told_by_change u (order_to v bytes id) ≡ order bytes ∷ []
-told_order u v bytes id e = grind arith
+given_order : (u v : UpsId) (bytes : List ℕ) (id : Option ℕ) → v ≡ u → given_by_change u (order_to v bytes id) ≡ order bytes ∷ []
+given_order u v bytes id e = grind arith
 
 change_gives : (u : UpsId) (bytes line_bytes : List ℕ) (id : Option ℕ) (s : ServerState) (c : ℕ) (line : List ℕ) (command : Command) (known : KnownUps) → read_command line ≡ Ok (Some command) → change_of_answer (answer_to (seen s) (asker c s) command) ≡ order_to known.id line_bytes id
-    → known.id ≡ u → bytes ≡ line_bytes → told_by_change u (change_by s c (read_command line)) ≡ order bytes ∷ []
-change_gives u bytes line_bytes id s c line command known read change this is = cc (read, change, told_order u known.id line_bytes id this, is)
+    → known.id ≡ u → bytes ≡ line_bytes → given_by_change u (change_by s c (read_command line)) ≡ order bytes ∷ []
+change_gives u bytes line_bytes id s c line command known read change this is = cc (read, change, given_order u known.id line_bytes id this, is)
 
 set_gives : (u : UpsId) (bytes : List ℕ) (s : ServerState) (c : ℕ) (line name value : List ℕ) (id : Option ℕ) → IsByRight s c line (λ ups. SetVar ups (Some name) (Some value)) rights.Set (ok_words id) u
-    → IsIdOfOrder (seen s) (asker c s) id → bytes ≡ set_line name value id → told_by_change u (change_by s c (read_command line)) ≡ order bytes ∷ []
+    → IsIdOfOrder (seen s) (asker c s) id → bytes ≡ set_line name value id → given_by_change u (change_by s c (read_command line)) ≡ order bytes ∷ []
 set_gives u bytes s c line name value None r id_is is =
     change_gives u bytes (set_line name value None) None s c line _ r.known r.command (each_order_answered_ok_is_given.set (seen s) (asker c s) r.ups name value r.known r.named (cc (r.command, r.answered))) r.this is
 set_gives u bytes s c line name value (Some id) r id_is is =
     change_gives u bytes (set_line name value (Some id)) (Some id) s c line _ r.known r.command (each_order_answered_ok_is_given.tracked_set (seen s) (asker c s) r.ups name value r.known id r.named id_is.1 (ap (text_to s c) (sym r.command) ∙ r.answered)) r.this is
 
 command_gives : (u : UpsId) (bytes : List ℕ) (s : ServerState) (c : ℕ) (line name : List ℕ) (value : Option (List ℕ)) (id : Option ℕ) → IsByRight s c line (λ ups. InstCmd ups (Some name) (value_given value)) (right_to name) (ok_words id) u
-    → IsIdOfOrder (seen s) (asker c s) id → bytes ≡ instcmd_line name value id → told_by_change u (change_by s c (read_command line)) ≡ order bytes ∷ []
+    → IsIdOfOrder (seen s) (asker c s) id → bytes ≡ instcmd_line name value id → given_by_change u (change_by s c (read_command line)) ≡ order bytes ∷ []
 command_gives u bytes s c line name value None r id_is is =
     change_gives u bytes (instcmd_line name value None) None s c line _ r.known r.command (each_order_answered_ok_is_given.command (seen s) (asker c s) r.ups name value r.known r.named (ap (text_to s c) (sym r.command) ∙ r.answered)) r.this is
 command_gives u bytes s c line name value (Some id) r id_is is =
     change_gives u bytes (instcmd_line name value (Some id)) (Some id) s c line _ r.known r.command (each_order_answered_ok_is_given.tracked_command (seen s) (asker c s) r.ups name value r.known id r.named id_is.1 (ap (text_to s c) (sym r.command) ∙ r.answered)) r.this is
 
-gives : (u : UpsId) (bytes : List ℕ) (x : Execution) → IsOrderByRight u bytes x → told_by_line u x ≡ order bytes ∷ []
+gives : (u : UpsId) (bytes : List ℕ) (x : Execution) → IsOrderByRight u bytes x → given_by_line u x ≡ order bytes ∷ []
 gives u bytes (of_line s c line) h = elim h [
   | inl set ↦ set_gives u bytes s c line set.name set.value set.id set.by_right set.id_is set.order_is
   | inr command ↦ command_gives u bytes s c line command.name command.value command.id command.by_right command.id_is command.order_is
@@ -91,54 +91,54 @@ gives u bytes (of_line s c line) h = elim h [
 gives u bytes (of_notice c) h = absurd h
 
 -- one execution
-abbrev Joins : UpsId → Execution → List Telling → Type 0
-Joins u x told = (xs : List Execution) (rest : List Telling) → AreOrdersByRight u xs (flat_map order_of rest) → AreOrdersByRight u (x ∷ xs) (flat_map order_of (told ++ rest))
+abbrev Joins : UpsId → Execution → List ServerLine → Type 0
+Joins u x told = (xs : List Execution) (rest : List ServerLine) → AreOrdersByRight u xs (flat_map order_of rest) → AreOrdersByRight u (x ∷ xs) (flat_map order_of (told ++ rest))
 
-passes : (u : UpsId) (x : Execution) → told_by_line u x ≡ [] → Joins u x []
+passes : (u : UpsId) (x : Execution) → given_by_line u x ≡ [] → Joins u x []
 passes u x e xs rest h = passed_over (λ bytes k. absurd (cc (e, gives u bytes x k))) h
 
-line_joins : (u : UpsId) (s : ServerState) (c : ℕ) (line : List ℕ) (change : Change) → change_by s c (read_command line) ≡ change → Joins u (of_line s c line) (told_by_change u change)
+line_joins : (u : UpsId) (s : ServerState) (c : ℕ) (line : List ℕ) (change : Change) → change_by s c (read_command line) ≡ change → Joins u (of_line s c line) (given_by_change u change)
 line_joins u s c line change e =
-    of_upses (λ told ys. told_by_line u (of_line s c line) ≡ told u → Joins u (of_line s c line) (told u)) change [] (passes u (of_line s c line))
+    of_upses (λ told ys. given_by_line u (of_line s c line) ≡ told u → Joins u (of_line s c line) (told u)) change [] (passes u (of_line s c line))
     (λ v f told does here. elim (does.orders u) [
       | inl none ↦ rw none (passes u (of_line s c line) (here ∙ none))
       | inr (bytes, id, own, is, told_is) ↦ rw told_is (λ xs rest h. given (by_read s c line u v bytes id own (e ∙ is)) h)
     ])
-    (ap (told_by_change u) e)
+    (ap (given_by_change u) e)
 
-joins : (u : UpsId) (x : Execution) → Joins u x (told_by_line u x)
+joins : (u : UpsId) (x : Execution) → Joins u x (given_by_line u x)
 joins u (of_line s c line) = line_joins u s c line (change_by s c (read_command line)) refl
 joins u (of_notice c) = passes u (of_notice c) refl
 
-all_join : (u : UpsId) (xs : List Execution) → AreOrdersByRight u xs (flat_map order_of (flat_map (told_by_line u) xs))
+all_join : (u : UpsId) (xs : List Execution) → AreOrdersByRight u xs (flat_map order_of (flat_map (given_by_line u) xs))
 all_join u [] = none_left
-all_join u (x ∷ xs) = joins u x xs (flat_map (told_by_line u) xs) (all_join u xs)
+all_join u (x ∷ xs) = joins u x xs (flat_map (given_by_line u) xs) (all_join u xs)
 
--- what a run told beside lines is no order
-beside_no_order : (u : UpsId) (s : ServerState) (e : Event) → flat_map order_of (told_beside_lines u s e) ≡ []
-beside_no_order u s e = of_told_beside u s (λ told. flat_map order_of told ≡ []) refl (λ b. no_order dump_all refl b) (λ b. no_order ping refl b) e
+-- what a run gave beside lines is no order
+beside_no_order : (u : UpsId) (s : ServerState) (e : Event) → flat_map order_of (given_beside_lines u s e) ≡ []
+beside_no_order u s e = of_given_beside u s (λ told. flat_map order_of told ≡ []) refl (λ b. no_order dump_all refl b) (λ b. no_order ping refl b) e
   where
-    no_order : (t : Telling) → order_of t ≡ [] → (b : Bool) → flat_map order_of (cond b (t ∷ []) []) ≡ []
+    no_order : (t : ServerLine) → order_of t ≡ [] → (b : Bool) → flat_map order_of (cond b (t ∷ []) []) ≡ []
     no_order t none b = grind (arith, none)
 
-pub all_in_front : (b : Bool) (told : List Telling) (taken : List ℕ) (later : Connections) → all_told (in_front b told taken later) ≡ told ++ all_told later
+pub all_in_front : (b : Bool) (told : List ServerLine) (taken : List ℕ) (later : Connections) → all_given (in_front b told taken later) ≡ told ++ all_given later
 all_in_front b told taken later = grind (arith, append_assoc)
 
-pub run_orders : (u : UpsId) (s : ServerState) (es : List Event) (os : List Outcome) → orders_told u s es os ≡ flat_map order_of (flat_map (told_by_line u) (executions s es os))
+pub run_orders : (u : UpsId) (s : ServerState) (es : List Event) (os : List Outcome) → orders_given u s es os ≡ flat_map order_of (flat_map (given_by_line u) (executions s es os))
 run_orders u s [] os = refl
 run_orders u s (e ∷ es) [] = refl
 run_orders u s (e ∷ es) (o ∷ os) =
     let here = executions_in_event s e o in
     let later = executions (after s e o) es os in
-    let by_lines : List Telling = flat_map (told_by_line u) here in
+    let by_lines : List ServerLine = flat_map (given_by_line u) here in
     cc (
-      all_in_front (is_lost_by u s e o) (told_in_event u s e o) (taken_in_event u s e) (connections u (after s e o) es os),
-      flat_map-append order_of (told_in_event u s e o) (all_told (connections u (after s e o) es os)),
-      flat_map-append order_of (told_beside_lines u s e) by_lines,
+      all_in_front (is_lost_by u s e o) (given_in_event u s e o) (taken_in_event u s e) (connections u (after s e o) es os),
+      flat_map-append order_of (given_in_event u s e o) (all_given (connections u (after s e o) es os)),
+      flat_map-append order_of (given_beside_lines u s e) by_lines,
       beside_no_order u s e,
       run_orders u (after s e o) es os,
-      flat_map-append order_of by_lines (flat_map (told_by_line u) later),
-      flat_map-append (told_by_line u) here later,
+      flat_map-append order_of by_lines (flat_map (given_by_line u) later),
+      flat_map-append (given_by_line u) here later,
     )
 
 pub orders_by_right : EachOrderIsByRight

@@ -155,7 +155,7 @@ begins s c = refl
 pub goes_on : (s t u : ServerState) (c k : ℕ) → t ≡ after_lines k s c → u ≡ after_line t c → u ≡ after_lines (k + 1) s c
 goes_on s t u c k e f = f ∙ ap (λ (z : ServerState). after_line z c) e ∙ sym (after_lines-suc k s c)
 
--- the loop ends: all lines are done, and whether the session was told that its line is too long is what the pump answers
+-- the loop ends: all lines are done, and whether the session's line was too long is what the pump answers
 pub pump_gives : (s t u : ServerState) (c k : ℕ) (r : Result (Unit {0}) Fault) → t ≡ after_lines k s c → k ≤ length (held_of (session c s)) → next_line_for t c ≡ None → u ≡ after_notice t c → r ≡ refused_overlong (is_overlong t c) → PumpGives s c r u
 unfolding pumped
 pump_gives s t u c k r e le none f told =

@@ -36,7 +36,7 @@ module _ {A : Type 0} (get : AskerSeen → Option A) (a : A) (c : ℕ) where
       own None has = has
       own (Some x) has = fewer x has
 
-  -- only lines of its client give it, where a session without anything, and one that is told, has no more
+  -- only lines of its client give it, where a session without anything, and one whose line is too long, has no more
   is_given : (Gives : ℕ → Execution → Type 0) → (get (asker_of None) ≡ Some a → ⊥) → ((x : SessionState) → get (asker_of (Some (notified x))) ≡ Some a → get (asker_of (Some x)) ≡ Some a)
       → ((s : ServerState) (d : ℕ) (line : List ℕ) (x : SessionState) → get (asker_of (Some (session_after s d line x))) ≡ Some a → (get (asker_of (Some x)) ≡ Some a) ⊎ Gives d (of_line s d line)) → IsMark Has (Gives c)
   is_given Gives none told line = record {

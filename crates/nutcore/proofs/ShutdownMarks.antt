@@ -1,4 +1,4 @@
--- A forced shutdown is set by lines alone, and by those that have the right.
+-- Only lines set a forced shutdown, and those that have the right.
 use Rattle.std.proofs.Common.{arith, ◌≡◌, ◌⊎◌, ℕ, zero, suc, Bool, true, false, List, [], ◌∷◌, ◌++◌, Option, Some, None, refl, sym, ◌∙◌, ap, subst, take, inl, inr}
 use Rattle.std.specs.Prelude.{slice_get, codes, All}
 use Rattle.std.specs.Option.{option_map_or}

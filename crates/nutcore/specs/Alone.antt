@@ -10,7 +10,7 @@ use Rattle.nutcore.specs.Run.{Run}
 use Rattle.nutcore.specs.History.{of_line, executions, of_client, taken, asked, owed, held, is_over}
 use Rattle.nutcore.specs.Headline.{IsLawful}
 
--- The run executed for the client this line alone, on this server, and what it took is exactly the
+-- The run executed only this line for the client, on this server, and what it took is exactly the
 -- reply to it.
 pub record WasAnswered (c : ℕ) (old : ServerState) (events : List Event) (outcomes : List Outcome)
     (line : List ℕ) : Type 0 where

@@ -137,21 +137,21 @@ CredentialsAreGivenByLines =
 abbrev pub logged_in : UpsId → ServerState → List SessionState
 logged_in u s = filter (is_logged_in_of u) s.sessions
 
--- This command tells the number of the sessions that are logged in to the UPS, in a line that
--- begins with this word.
-abbrev pub TellsHowManyAreLoggedIn : (Option (List ℕ) → Command) → List ℕ → Type 0
-TellsHowManyAreLoggedIn command word =
+-- This command is answered by the number of the sessions that are logged in to the UPS, in a line
+-- that begins with this word.
+abbrev pub AnswersHowManyAreLoggedIn : (Option (List ℕ) → Command) → List ℕ → Type 0
+AnswersHowManyAreLoggedIn command word =
     (s : ServerState) (c : ℕ) (line : List ℕ) (ups : Option (List ℕ)) (known : KnownUps)
     → read_command line ≡ Ok (Some (command ups)) → ups_named (seen s) ups ≡ Some known
     → reply s c line
     ≡ text_line (word ∷ known.name ∷ decimal (length (logged_in known.id s)) ∷ [])
 
--- What is counted is who is there: `GET NUMLOGINS` and `GET NUMATTACH` tell the number of the
+-- What is counted is who is there: `GET NUMLOGINS` and `GET NUMATTACH` answer the number of the
 -- sessions that are logged in to the UPS, and `LIST CLIENT` lists exactly these, by their
 -- addresses.
 pub record WhatIsCountedIsWhoIsThere : Type 0 where
-  pub counted : TellsHowManyAreLoggedIn (λ ups. GetNumLogins ups) (codes "NUMLOGINS")
-  pub attached : TellsHowManyAreLoggedIn (λ ups. GetNumAttach ups) (codes "NUMATTACH")
+  pub counted : AnswersHowManyAreLoggedIn (λ ups. GetNumLogins ups) (codes "NUMLOGINS")
+  pub attached : AnswersHowManyAreLoggedIn (λ ups. GetNumAttach ups) (codes "NUMATTACH")
   pub listed : (s : ServerState) (c : ℕ) (line : List ℕ) (ups : Option (List ℕ)) (known : KnownUps)
       → read_command line ≡ Ok (Some (ListClient ups)) → ups_named (seen s) ups ≡ Some known
       → reply s c line

@@ -32,7 +32,7 @@ is_finished x = x.ending && (length x.owed == 0)
 abbrev pub room_of : SessionState → ℕ
 room_of x = if x.ending then HELD_LIMIT else HELD_LIMIT - length x.held
 
--- How a client stands with the server.
+-- The status of a client.
 abbrev pub standing_of : SessionState → Standing
 standing_of x =
     record {

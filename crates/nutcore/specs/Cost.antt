@@ -10,7 +10,7 @@ use Rattle.nutcore.specs.Server.{ServerState, session}
 use Rattle.nutcore.specs.Step.{offered, after}
 use Rattle.nutcore.specs.History.{taken_in_event}
 
--- A server as its callers see it, what its last event cost, and what is told of that.
+-- A server as its callers see it, what its last event cost, and what was noted of it.
 pub record RunningServer : Type 0 where
   pub state : ServerState
   pub cost : Cost

@@ -122,8 +122,8 @@ pub record DriverIsHeard (u : UpsId) (old : ServerState) (came : List ℕ) (line
 
 -- While a driver isn't lost, all that came from it is its executed lines, followed by what is
 -- unfinished, its report is what these lines made of it, and the refused ones are counted.
-abbrev pub WhatADriverToldIsExecuted : Type 0
-WhatADriverToldIsExecuted =
+abbrev pub WhatADriverReportedIsExecuted : Type 0
+WhatADriverReportedIsExecuted =
     (old new : ServerState) (events : List Event) (outcomes : List Outcome) (u : UpsId)
     → Run old events outcomes new → StaysConnected u old events outcomes
     → DriverIsHeard u old (came u events) (heard u old events outcomes) new

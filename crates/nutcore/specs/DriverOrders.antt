@@ -20,50 +20,51 @@ use Rattle.nutcore.specs.Headline.{IsBeginning}
 use Rattle.nutcore.specs.Sound.{IsSound}
 use Rattle.nutcore.specs.DriverHistory.{has_driver}
 
--- What a driver is told: to tell all that it knows, to answer whether it is there, or an order,
--- which is a line of bytes.
-pub data Telling : Type 0 where
-  dump_all : Telling
-  ping : Telling
-  order : (line : List ℕ) → Telling
+-- A line to a driver: DUMPALL, by which it reports all that it knows, PING, by which it answers
+-- that it is there, or an order, which is a line of bytes.
+pub data ServerLine : Type 0 where
+  dump_all : ServerLine
+  ping : ServerLine
+  order : (line : List ℕ) → ServerLine
 
-abbrev pub text_of : Telling → List ℕ
+abbrev pub text_of : ServerLine → List ℕ
 text_of dump_all = codes "DUMPALL" ++ 10 ∷ []
 text_of ping = ping_line
 text_of (order line) = line
 
-abbrev pub texts_of : List Telling → List ℕ
-texts_of tellings = flat_map text_of tellings
+abbrev pub texts_of : List ServerLine → List ℕ
+texts_of lines = flat_map text_of lines
 
--- What a command changes tells the driver of this UPS: an order to it, and nothing else.
-abbrev pub told_by_change : UpsId → Change → List Telling
-told_by_change u (changes.Order v line) = if v.place == u.place then order line.items ∷ [] else []
-told_by_change u (changes.Tracked v id line) =
+-- What a command's change gives the driver of this UPS: an order to it, and nothing else.
+abbrev pub given_by_change : UpsId → Change → List ServerLine
+given_by_change u (changes.Order v line) = if v.place == u.place then order line.items ∷ [] else []
+given_by_change u (changes.Tracked v id line) =
     if v.place == u.place then order line.items ∷ [] else []
-told_by_change u _ = []
+given_by_change u _ = []
 
--- So does an executed line of a client.
-abbrev pub told_by_line : UpsId → Execution → List Telling
-told_by_line u (of_line s c line) = told_by_change u (change_by s c (read_command line))
-told_by_line u (of_notice c) = []
+-- What an executed line of a client gives it.
+abbrev pub given_by_line : UpsId → Execution → List ServerLine
+given_by_line u (of_line s c line) = given_by_change u (change_by s c (read_command line))
+given_by_line u (of_notice c) = []
 
 -- The moment of a tick: it never goes back.
 abbrev pub moment_of : ServerState → ℕ → ℕ
 moment_of s seconds = max seconds s.moment
 
--- Beside lines, the driver is told by its connection, and by a tick at which its PING is due.
-abbrev pub told_beside_lines : UpsId → ServerState → Event → List Telling
-told_beside_lines u s (DriverUp v) =
+-- Beside lines of clients, a driver gets a line by its connection, and by a tick at which its PING
+-- is due.
+abbrev pub given_beside_lines : UpsId → ServerState → Event → List ServerLine
+given_beside_lines u s (DriverUp v) =
     if v.place == u.place && not (has_driver u s) then dump_all ∷ [] else []
-told_beside_lines u s (Tick seconds) =
+given_beside_lines u s (Tick seconds) =
     if option_map_or (ping_is_due s.max_age (moment_of s seconds)) (ups_at u.place s) false
     then ping ∷ [] else []
-told_beside_lines u s _ = []
+given_beside_lines u s _ = []
 
--- What an event tells the driver.
-abbrev pub told_in_event : UpsId → ServerState → Event → Outcome → List Telling
-told_in_event u s e outcome =
-    told_beside_lines u s e ++ flat_map (told_by_line u) (executions_in_event s e outcome)
+-- The lines to the driver that an event adds.
+abbrev pub given_in_event : UpsId → ServerState → Event → Outcome → List ServerLine
+given_in_event u s e outcome =
+    given_beside_lines u s e ++ flat_map (given_by_line u) (executions_in_event s e outcome)
 
 -- What the driver is owed: nothing where there is no such UPS.
 abbrev pub owed_to_driver : UpsId → ServerState → List ℕ
@@ -80,9 +81,9 @@ taken_in_event u s _ = []
 abbrev pub is_lost_by : UpsId → ServerState → Event → Outcome → Bool
 is_lost_by u s e outcome = has_driver u s && not (has_driver u (after s e outcome))
 
--- One connection of a driver: what it was told, and the bytes that it took.
+-- One connection of a driver: the lines to it, and the bytes that it took.
 pub record Connection : Type 0 where
-  pub told : List Telling
+  pub given : List ServerLine
   pub taken : List ℕ
 
 -- The connections of a driver in a run, in order: those that were lost, and the last, in which
@@ -91,37 +92,37 @@ pub data Connections : Type 0 where
   last : (now : Connection) → Connections
   lost : (first : Connection) → (later : Connections) → Connections
 
--- What an event told the driver and what it took, in front of what passed later in the same
--- connection.
-abbrev pub with_front : List Telling → List ℕ → Connections → Connections
-with_front told taken (last now) =
-    last (record { told = told ++ now.told; taken = taken ++ now.taken })
-with_front told taken (lost first later) =
-    lost (record { told = told ++ first.told; taken = taken ++ first.taken }) later
+-- The lines to the driver that an event added and the bytes that it took, in front of what passed
+-- later in the same connection.
+abbrev pub with_front : List ServerLine → List ℕ → Connections → Connections
+with_front given taken (last now) =
+    last (record { given = given ++ now.given; taken = taken ++ now.taken })
+with_front given taken (lost first later) =
+    lost (record { given = given ++ first.given; taken = taken ++ first.taken }) later
 
 -- A connection that is lost has nothing after the event that lost it.
-abbrev pub in_front : Bool → List Telling → List ℕ → Connections → Connections
-in_front true told taken later = lost (record { told = told; taken = taken }) later
-in_front false told taken later = with_front told taken later
+abbrev pub in_front : Bool → List ServerLine → List ℕ → Connections → Connections
+in_front true given taken later = lost (record { given = given; taken = taken }) later
+in_front false given taken later = with_front given taken later
 
 abbrev pub connections : UpsId → ServerState → List Event → List Outcome → Connections
-connections u s [] os = last (record { told = []; taken = [] })
-connections u s (e ∷ es) [] = last (record { told = []; taken = [] })
+connections u s [] os = last (record { given = []; taken = [] })
+connections u s (e ∷ es) [] = last (record { given = []; taken = [] })
 connections u s (e ∷ es) (o ∷ os) =
-    in_front (is_lost_by u s e o) (told_in_event u s e o) (taken_in_event u s e)
+    in_front (is_lost_by u s e o) (given_in_event u s e o) (taken_in_event u s e)
     (connections u (after s e o) es os)
 
--- Of a connection that lasts, what was owed before, followed by what the driver was told, is what
--- it took, followed by what it is owed after. Of one that was lost it took a beginning of that, and
+-- Of a connection that lasts, what was owed before, followed by the lines to the driver, is what it
+-- took, followed by what it is owed after. Of one that was lost it took a beginning of that, and
 -- the next one begins with nothing owed.
 abbrev pub IsSentAndOwed : List ℕ → Connections → List ℕ → Type 0
-IsSentAndOwed before (last now) after = before ++ texts_of now.told ≡ now.taken ++ after
+IsSentAndOwed before (last now) after = before ++ texts_of now.given ≡ now.taken ++ after
 IsSentAndOwed before (lost first later) after =
-    IsBeginning first.taken (before ++ texts_of first.told) × IsSentAndOwed [] later after
+    IsBeginning first.taken (before ++ texts_of first.given) × IsSentAndOwed [] later after
 
 -- Of every run of a sound server, and of every UPS of it.
-abbrev pub WhatADriverWasSentAndIsOwedIsWhatItWasTold : Type 0
-WhatADriverWasSentAndIsOwedIsWhatItWasTold =
+abbrev pub WhatADriverWasSentAndIsOwedIsWhatItWasGiven : Type 0
+WhatADriverWasSentAndIsOwedIsWhatItWasGiven =
     (old new : ServerState) (events : List Event) (outcomes : List Outcome) (u : UpsId)
     → IsSound old → u.place < length old.upses → Run old events outcomes new
     → IsSentAndOwed (owed_to_driver u old) (connections u old events outcomes)

@@ -64,8 +64,9 @@ pub record ConnectedInRun (u : UpsId) (old : ServerState) (events : List Event)
   pub reached : Run old events_before outcomes_before server
   pub connects : ConnectsHere u server events_since outcomes_since now
 
--- The UPS at the end of a run from a new server: where no driver is connected, a new one but for a
--- forced shutdown and the count of refused lines; and else as its driver's last connection made it.
+-- The UPS at the end of a run from a new server: where no driver is connected, a new one except for
+-- a forced shutdown and the count of refused lines; and else as its driver's last connection made
+-- it.
 pub record StandsAfter (u : UpsId) (old : ServerState) (events : List Event)
     (outcomes : List Outcome) (new : ServerState) : Type 0 where
   pub now : UpsState

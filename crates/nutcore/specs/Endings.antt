@@ -43,14 +43,14 @@ IdsThatAreGivenRise =
     (old new : ServerState) (events : List Event) (outcomes : List Outcome)
     → Run old events outcomes new → RiseFrom old.next_id new.next_id (ids_given outcomes)
 
--- A tick leaves every session as it is, and but for the moment and the UPSs the whole server.
+-- A tick leaves every session as it is, and the whole server except the moment and the UPSs.
 abbrev pub ATickTouchesNoSession : Type 0
 ATickTouchesNoSession =
     (old new : ServerState) (seconds : ℕ) (outcome : Outcome) → Step old (Tick seconds) outcome new
     → (let but : ServerState = record new { moment = old.moment; upses = old.upses } in but) ≡ old
 
--- So does an opening every session that there was, and but for the sessions and the next id the
--- whole server.
+-- So does an opening every session that there was, and the whole server except the sessions and the
+-- next id.
 pub record LeavesOlderSessions (old new : ServerState) : Type 0 where
   pub sessions : (c : ℕ) → c < old.next_id → session c new ≡ session c old
   pub server : (let but : ServerState

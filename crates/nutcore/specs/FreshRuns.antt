@@ -84,19 +84,19 @@ pub record WasFresh (old : ServerState) (events : List Event) (outcomes : List O
   pub is : known.state ≡ seen_ups fresh.now
 
 -- Where a line asks for the data of a UPS, or gives its driver an order, and isn't answered by ERR.
-abbrev pub IsToldFresh : ServerState → List Event → List Outcome → Execution → Type 0
-IsToldFresh old events outcomes (of_line s c line) =
+abbrev pub IsAnsweredFresh : ServerState → List Event → List Outcome → Execution → Type 0
+IsAnsweredFresh old events outcomes (of_line s c line) =
     (command : Command) (ups : Option (List ℕ)) → read_command line ≡ Ok (Some command)
     → asks_data_of command ≡ Some ups → starts_with nat_eq (reply s c line) (codes "ERR") ≡ false
     → WasFresh old events outcomes s c line ups
-IsToldFresh old events outcomes (of_notice c) = Unit {0}
+IsAnsweredFresh old events outcomes (of_notice c) = Unit {0}
 
 -- Of every line that a run from a new server executes.
-abbrev pub WhateverIsToldIsFresh : Type 0
-WhateverIsToldIsFresh =
+abbrev pub WhateverIsAnsweredIsFresh : Type 0
+WhateverIsAnsweredIsFresh =
     (old new : ServerState) (events : List Event) (outcomes : List Outcome) → IsNewServer old
     → Run old events outcomes new
-    → All (IsToldFresh old events outcomes) (executions old events outcomes)
+    → All (IsAnsweredFresh old events outcomes) (executions old events outcomes)
 
 -- Those of its lines since it connected that changed its tree.
 abbrev pub changes_since : {u : UpsId} {old : ServerState} {events : List Event}

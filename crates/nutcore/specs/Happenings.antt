@@ -11,17 +11,17 @@ use Rattle.nutcore.specs.Step.{after, refused_after}
 use Rattle.nutcore.specs.Run.{Run}
 use Rattle.nutcore.specs.History.{Execution, of_line, of_notice, executions_in_event, answers}
 
--- What happens to a server, apart from bytes that come and go: a line of a client is executed, its
--- client is told that one is too long, or an event comes that no client sent or took by, with the
--- number of lines after which memory was refused to it.
+-- What happens to a server, apart from bytes that come and go: a line of a client is executed; a
+-- client gets the answer that its line is too long; or an event comes that no client sent or took
+-- by, with the number of lines after which memory was refused to it.
 pub data Happening : Type 0 where
   line_is_executed : (client : ℕ) → (line : List ℕ) → Happening
-  notice_is_told : (client : ℕ) → Happening
+  notice_is_sent : (client : ℕ) → Happening
   event_comes : (event : Event) → (refused : Option ℕ) → Happening
 
 abbrev pub happening_of : Execution → Happening
 happening_of (of_line s c line) = line_is_executed c line
-happening_of (of_notice c) = notice_is_told c
+happening_of (of_notice c) = notice_is_sent c
 
 abbrev pub happened_in_event : ServerState → Event → Outcome → List Happening
 happened_in_event s (Feed c piece) outcome =
@@ -36,7 +36,7 @@ happenings s [] os = []
 happenings s (e ∷ es) [] = []
 happenings s (e ∷ es) (o ∷ os) = happened_in_event s e o ++ happenings (after s e o) es os
 
--- A server but for what its sessions hold and are owed.
+-- A server except for what its sessions hold and are owed.
 abbrev pub without_bytes : SessionState → SessionState
 without_bytes x = record x { held = []; owed = [] }
 

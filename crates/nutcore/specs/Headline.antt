@@ -47,7 +47,7 @@ pub record TakenUp (c : ℕ) (old : ServerState) (events : List Event) (outcomes
   pub once_over : is_over c new ≡ true
       → IsBeginning (executed c old events outcomes) (held c old ++ asked c old events outcomes)
 
--- One event: what it leaves by its outcome, and the same of it alone as of a run.
+-- One event: what it leaves by its outcome, and the same of it by itself as of a run.
 pub record Serves (old : ServerState) (event : Event) (outcome : Outcome) (new : ServerState)
     : Type 0 where
   pub step : Step old event outcome new
@@ -146,7 +146,7 @@ ThePumpExecutesTheLeast = (s : ServerState) (c : ℕ) → (k : ℕ) × IsLeast s
 abbrev pub IsOutOfMemory : Outcome → Type 0
 IsOutOfMemory outcome = (k : ℕ) × (outcome ≡ Refused (Memory k))
 
--- An event is a function of the server: given the outcome there is one next server, and but for
+-- An event is a function of the server: given the outcome there is one next server, and except for
 -- being out of memory there is one outcome.
 pub record IsAFunction (s : ServerState) (event : Event) : Type 0 where
   pub one_next : (outcome : Outcome) (new other : ServerState) → Step s event outcome new

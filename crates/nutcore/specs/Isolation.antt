@@ -44,11 +44,11 @@ ups_of (Took c n) = None
 ups_of (Close c) = None
 ups_of (Id id) = None
 
--- A UPS but for what commands change of it: its forced shutdown, and what its driver is owed.
+-- A UPS except for what commands change of it: its forced shutdown, and what its driver is owed.
 abbrev pub without_commands : UpsState → UpsState
 without_commands x = record x { fsd = false; owed = [] }
 
--- The server but for the sessions, for what commands change of the UPSs, and for the ids and the
+-- The server except for the sessions, for what commands change of the UPSs, and for the ids and the
 -- tracked orders.
 abbrev pub kept_from_clients : ServerState → ServerState
 kept_from_clients s = record s {

@@ -32,7 +32,7 @@ pub mod Lasting
 pub mod Endings
 pub mod ReadsBack
 pub mod Addresses
-pub mod TellingLines
+pub mod ServerLines
 pub mod AnswersApart
 pub mod Limits
 pub mod Calls

@@ -52,7 +52,7 @@ pub record EachIsListedOnce : Type 0 where
       (filter is_rw known.state.report.tree.variables)))
       × (IsSoundTree known.state.report.tree
       → HasRisingKeys byte_order (filter is_rw known.state.report.tree.variables))
-  -- Enum values and ranges stand in the order of the tree's lists, each once.
+  -- Enum values and ranges are in the order of the tree's lists, each once.
   pub enum_values : (s : ServerState) (c : ℕ) (line : List ℕ) (ups : Option (List ℕ))
       (name : List ℕ) (known : KnownUps) (variable : VariableState)
       → read_command line ≡ Ok (Some (ListEnum ups (Some name))) → AsksOf s ups known
@@ -69,11 +69,11 @@ pub record EachIsListedOnce : Type 0 where
       ≡ frame (codes "RANGE") (known.name ∷ name ∷ [])
       (map (range_item known.name name) variable.ranges))
       × (IsSoundTree known.state.report.tree → HasNoRepeats variable.ranges)
-  -- UPSs stand in the order of the list, which is that of their names.
+  -- UPSs are in the order of the list, which is that of their names.
   pub upses : (s : ServerState) (c : ℕ) (line : List ℕ) → read_command line ≡ Ok (Some ListUps)
       → (reply s c line ≡ frame (codes "UPS") [] (map ups_item s.list))
       × (IsSound s → AreByName s.list)
-  -- Whatever an answer tells of a UPS stands in a sound tree.
+  -- Whatever an answer says of a UPS is in a sound tree.
   pub tree : (s : ServerState) (ups : Option (List ℕ)) (known : KnownUps) → IsSound s
       → ups_named (seen s) ups ≡ Some known → IsSoundTree known.state.report.tree
 

@@ -32,7 +32,7 @@ abbrev pub Leads : {A : Type 0} → A → List A → A → Type 0
 Leads was [] is = is ≡ was
 Leads was (next ∷ later) is = (next ≢ was) × Leads next later is
 
--- How the data of a UPS stand: lost, where there is no such UPS.
+-- The state of the data of a UPS: lost, where there is no such UPS.
 abbrev pub data_at : UpsId → ServerState → DataState
 data_at u s = option_map_or (data_state_of s.max_age s.moment) (ups_at u.place s) Lost
 

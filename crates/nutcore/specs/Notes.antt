@@ -55,9 +55,9 @@ refusal_in text =
 
 -- A line that is answered so, and changes this, is noted: one that changes nothing only where it is
 -- refused.
-abbrev pub is_told : List ℕ → Change → Bool
-is_told text changes.Nothing = is_refusal text
-is_told text _ = true
+abbrev pub is_noted : List ℕ → Change → Bool
+is_noted text changes.Nothing = is_refusal text
+is_noted text _ = true
 
 -- Whose session it is.
 abbrev pub who_of : SessionState → Who
@@ -90,12 +90,12 @@ note_read x _ text = None
 -- What is noted of an executed line, on the server as it was at that moment.
 abbrev pub note_of : Execution → Option Note
 note_of (of_line s c line) =
-    if is_told (reply s c line) (change_by s c (read_command line))
+    if is_noted (reply s c line) (change_by s c (read_command line))
     then option_and_then (λ x. note_read x (read_command line) (reply s c line)) (session c s)
     else None
 note_of (of_notice c) = None
 
--- What is noted where the session is told that its line is too long: it begins to end.
+-- What is noted where the session's line is too long: the session begins to end.
 abbrev pub note_of_notice : ServerState → ℕ → Option Note
 note_of_notice s c =
     option_and_then (λ x. if holds_overlong x then logout_of x else None) (session c s)
@@ -110,8 +110,8 @@ notes_of_pump s c None =
     ++ cons_option (note_of_notice (after_all_lines s c) c) []
 notes_of_pump s c (Some k) = notes_of_lines (executions_until s c (Some k))
 
--- How the data of a UPS stand, by whether its driver has reported all that it knows, and by what
--- clients are told of them.
+-- How the data of a UPS are, by whether its driver has reported all that it knows, and by what
+-- clients get of them.
 abbrev pub data_state : Bool → Readiness → DataState
 data_state dumped not_connected = states.Lost
 data_state dumped usable = states.Good
@@ -126,7 +126,7 @@ abbrev pub status_of : UpsState → Option (List ℕ)
 status_of x = value_of x.report.tree (codes "ups.status")
 
 -- What is compared of a UPS, by the greatest age and the moment: how many lines of its drivers were
--- refused, and why the last one was; its status; and how its data stand.
+-- refused, and why the last one was; its status; and the state of its data.
 abbrev pub look_of : ℕ → ℕ → UpsState → Look
 look_of max_age moment x =
     record {
@@ -148,7 +148,7 @@ status_note u _ None = None
 status_note u None (Some is) = Some (StatusChanged u)
 status_note u (Some was) (Some is) = if bytes_eq was is then None else Some (StatusChanged u)
 
--- and how its data stand, where they stood otherwise.
+-- and the state of its data, where it was another.
 abbrev pub data_note : UpsId → DataState → DataState → Option Note
 data_note u states.Lost states.Lost = None
 data_note u states.Awaited states.Awaited = None
@@ -166,8 +166,8 @@ notes_between u _ _ = []
 abbrev pub look_at : UpsId → ServerState → Option Look
 look_at u s = option_map (look_of s.max_age s.moment) (ups_at u.place s)
 
--- Data become stale by the clock alone, from one moment to another: of the UPSs of which the first
--- one stands at this place, in their order.
+-- Data become stale only by the clock, from one moment to another: of the UPSs of which the first
+-- one is at this place, in their order.
 abbrev pub tick_note : ℕ → ℕ → ℕ → ℕ → UpsState → Option Note
 tick_note max_age was now place x =
     data_note (id_at place) (data_state_of max_age was x) (data_state_of max_age now x)

@@ -16,14 +16,14 @@ use Rattle.nutcore.specs.declared.event.Outcome.{Outcome}
 use Rattle.nutcore.specs.Server.{ServerState}
 use Rattle.nutcore.specs.History.{Execution, of_line, of_notice, executions}
 use Rattle.nutcore.specs.ByRight.{IsByRight}
-use Rattle.nutcore.specs.DriverOrders.{Telling, dump_all, ping, order, Connections, last, lost}
-use Rattle.nutcore.specs.DriverOrders.{connections, told_by_line}
+use Rattle.nutcore.specs.DriverOrders.{ServerLine, dump_all, ping, order, Connections, last, lost}
+use Rattle.nutcore.specs.DriverOrders.{connections, given_by_line}
 
--- The line is `SET VAR` of this UPS, answered `OK`, or `OK TRACKING` and the first id at hand where
--- the session's orders are tracked, of a session that has given the name and the
--- password of a user with the right to set variables; its UPS is usable, and has the variable,
--- which clients may set, and which may have this value at that moment. The order is `SET name
--- "value"`, with `TRACKING` and the id behind it where it is tracked.
+-- The line is `SET VAR` of this UPS, answered `OK`, or `OK TRACKING` and the first available id
+-- where the session's orders are tracked. The session has given the name and the password of a user
+-- with the right to set variables. Its UPS is usable, and has the variable, which clients may set,
+-- and which may have this value at that moment. The order is `SET name "value"`, followed by
+-- `TRACKING` and the id where it is tracked.
 pub record IsSetByRight (u : UpsId) (bytes : List ℕ) (s : ServerState) (c : ℕ) (line : List ℕ)
     : Type 0 where
   pub name : List ℕ
@@ -73,31 +73,31 @@ pub data AreOrdersByRight (u : UpsId) : List Execution → List (List ℕ) → T
       → ((bytes : List ℕ) → IsOrderByRight u bytes x → ⊥) → AreOrdersByRight u xs orders
       → AreOrdersByRight u (x ∷ xs) orders
 
--- The order of a telling, if it is one.
-abbrev pub order_of : Telling → List (List ℕ)
+-- The order of a line to a driver, if it is one.
+abbrev pub order_of : ServerLine → List (List ℕ)
 order_of dump_all = []
 order_of ping = []
 order_of (order bytes) = bytes ∷ []
 
--- What the driver was told in all connections of a run.
-abbrev pub all_told : Connections → List Telling
-all_told (last now) = now.told
-all_told (lost first later) = first.told ++ all_told later
+-- The lines to the driver in all connections of a run.
+abbrev pub all_given : Connections → List ServerLine
+all_given (last now) = now.given
+all_given (lost first later) = first.given ++ all_given later
 
--- The orders that a run told the driver of this UPS.
-abbrev pub orders_told : UpsId → ServerState → List Event → List Outcome → List (List ℕ)
-orders_told u s es os = flat_map order_of (all_told (connections u s es os))
+-- The orders that a run gave the driver of this UPS.
+abbrev pub orders_given : UpsId → ServerState → List Event → List Outcome → List (List ℕ)
+orders_given u s es os = flat_map order_of (all_given (connections u s es os))
 
--- The orders that a run told the driver of a UPS are exactly those of the lines that it executed by
+-- The orders that a run gave the driver of a UPS are exactly those of the lines that it executed by
 -- right, one each, in their order.
 abbrev pub EachOrderIsByRight : Type 0
 EachOrderIsByRight =
     (old : ServerState) (events : List Event) (outcomes : List Outcome) (u : UpsId)
-    → AreOrdersByRight u (executions old events outcomes) (orders_told u old events outcomes)
+    → AreOrdersByRight u (executions old events outcomes) (orders_given u old events outcomes)
 
--- They are what the lines that it executed tell that driver, in their order.
-abbrev pub TheOrdersToldAreThoseOfTheLines : Type 0
-TheOrdersToldAreThoseOfTheLines =
+-- They are the orders that the lines that it executed give that driver, in their order.
+abbrev pub TheOrdersGivenAreThoseOfTheLines : Type 0
+TheOrdersGivenAreThoseOfTheLines =
     (old : ServerState) (events : List Event) (outcomes : List Outcome) (u : UpsId)
-    → orders_told u old events outcomes
-    ≡ flat_map order_of (flat_map (told_by_line u) (executions old events outcomes))
+    → orders_given u old events outcomes
+    ≡ flat_map order_of (flat_map (given_by_line u) (executions old events outcomes))

@@ -43,7 +43,7 @@ use Rattle.nutcore.specs.History.{owed, of_line}
 use Rattle.nutcore.specs.declared.note.Note.{Note}
 use Rattle.nutcore.specs.declared.note.TheConstants.{NOTE_LIMIT}
 use Rattle.nutcore.specs.declared.note.Look.{Look}
-use Rattle.nutcore.specs.Notes.{is_told, note_read, note_of, refusal_note, status_note, data_note}
+use Rattle.nutcore.specs.Notes.{is_noted, note_read, note_of, refusal_note, status_note, data_note}
 use Rattle.nutcore.specs.Cost.{RunningServer}
 use Rattle.nutcore.specs.Pump.{pumped, after_all_lines, after_lines, is_overlong, wants_memory}
 use Rattle.nutcore.specs.Pump.{shares_version_read, next_line_for}
@@ -63,13 +63,13 @@ abbrev pub IsFront : Option ℕ → List ℕ → Type 0
 IsFront None piece = Unit {0}
 IsFront (Some n) piece = (n ≤ length piece) × (n ≤ LINE_LIMIT)
 
--- Where the next line of its driver lies, for a UPS that is lent a piece. It changes what the UPS
--- holds alone.
+-- Where the next line of its driver is, for a UPS and a piece that it borrows. It changes only what
+-- the UPS holds.
 pub record IsCut (piece : List ℕ) (old : UpsState) (result : Found) (new : UpsState) : Type 0 where
   pub finds : Finds old.unfinished piece result new.unfinished
   pub leaves : new ≡ with_unfinished new.unfinished old
 
--- What a line does to the UPS of its driver: it is done, its outcome told, and nothing is held; or
+-- What a line does to the UPS of its driver: it is done, its outcome given, and nothing is held; or
 -- it would change the tree, and memory was refused, and it was heard, no more.
 abbrev pub DoesLine : ℕ → List ℕ → UpsState → Result LineOutcome AllocError → UpsState → Type 0
 DoesLine moment line old (Ok outcome) new =
@@ -85,7 +85,7 @@ abbrev pub IsTaken : ℕ → UpsState → Result (Unit {0}) Fault → UpsState �
 IsTaken n old (Ok u) new = (n ≤ length old.owed) × (new ≡ record old { owed = drop n old.owed })
 IsTaken n old (Err fault) new = (fault ≡ TookTooMuch) × (length old.owed < n) × (new ≡ old)
 
--- where the session of this id stands
+-- where the session of this id is
 abbrev pub place : ℕ → List SessionState → ℕ
 place c xs = position_or_len (λ x. x.id == c) xs
 
@@ -102,7 +102,7 @@ PumpGives old c (Err (Memory k)) new =
     IsTrue (wants_memory (after_lines k old c) c) × (new ≡ after_lines k old c)
 PumpGives old c (Err fault) new = ⊥
 
--- whether the session was told that its line is too long
+-- whether the session's line was too long
 abbrev pub refused_overlong : Bool → Result (Unit {0}) Fault
 refused_overlong b = if b then Err LineTooLong else Ok tt
 
@@ -177,14 +177,15 @@ AnswersEach view who read result =
 
 -- what a driver reported leaves of the server: all its whole lines and the rest, or what its first
 -- k lines leave, where the next wants memory that is refused
-abbrev pub IsTold : UpsId → List ℕ → ServerState → Result (Unit {0}) Fault → ServerState → Type 0
-IsTold u text old (Ok t) new =
+abbrev pub HasReported : UpsId → List ℕ → ServerState → Result (Unit {0}) Fault → ServerState
+    → Type 0
+HasReported u text old (Ok t) new =
     (is_too_long (unfinished_after text) ≡ false) × (new ≡ after_driver_text u text None old)
-IsTold u text old (Err LineTooLong) new =
+HasReported u text old (Err LineTooLong) new =
     (is_too_long (unfinished_after text) ≡ true) × (new ≡ after_driver_text u text None old)
-IsTold u text old (Err (Memory k)) new =
+HasReported u text old (Err (Memory k)) new =
     (wants_driver_memory u text k old ≡ true) × (new ≡ after_driver_text u text (Some k) old)
-IsTold u text old (Err fault) new = ⊥
+HasReported u text old (Err fault) new = ⊥
 
 -- an event of a UPS's driver is refused so: there is no such UPS, or no driver is connected to it
 abbrev pub IsNotConnected : UpsId → Fault → ServerState → Type 0
@@ -194,9 +195,9 @@ IsNotConnected u fault s =
 
 -- before the driver is taken as lost: the same by what it would be then
 abbrev pub IsStopped : UpsId → List ℕ → ServerState → Result (Unit {0}) Fault → ServerState → Type 0
-IsStopped u text old (Ok t) new = IsTold u text old (Ok t) new
+IsStopped u text old (Ok t) new = HasReported u text old (Ok t) new
 IsStopped u text old (Err fault) new =
-    IsTold u text old (Err fault) (with_ups_changed after_loss u new)
+    HasReported u text old (Err fault) (with_ups_changed after_loss u new)
 
 -- the server on which a UPS holds nothing
 abbrev pub holding_nothing : UpsId → ServerState → ServerState
@@ -270,7 +271,7 @@ cost_beyond kept after = record { rendered = lines (drop kept after); placed = l
 -- what is noted of a line of the session that was read and answered so
 abbrev pub note_in_reply : SessionState → Result (Option Command) ErrWord → Reply → Option Note
 note_in_reply x read (One text change) =
-    if is_told text.now change then note_read x read text.now else None
+    if is_noted text.now change then note_read x read text.now else None
 note_in_reply x read (Many listing) = None
 note_in_reply x read (Clients name u) = None
 
@@ -279,11 +280,11 @@ abbrev pub with_note : Option Note → List Note → List Note
 with_note = with_one NOTE_LIMIT
 
 -- what is noted of the client's next line, if it may be executed
-abbrev pub told_next : ServerState → ℕ → Option (List ℕ) → Option Note
-told_next s c next = option_and_then (λ line. note_of (of_line s c line)) next
+abbrev pub next_note : ServerState → ℕ → Option (List ℕ) → Option Note
+next_note s c next = option_and_then (λ line. note_of (of_line s c line)) next
 
 abbrev pub with_next : ServerState → ℕ → List Note → List Note
-with_next s c notes = with_note (told_next s c (next_line_for s c)) notes
+with_next s c notes = with_note (next_note s c (next_line_for s c)) notes
 
 -- the notes, and those of a UPS that looked so and looks so
 abbrev pub with_changes : UpsId → Option Look → Option Look → List Note → List Note

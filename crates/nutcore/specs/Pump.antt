@@ -68,7 +68,7 @@ holds_overlong x =
 abbrev pub is_overlong : ServerState → ℕ → Bool
 is_overlong s c = option_map_or holds_overlong (session c s) false
 
--- The session is told that its line is too long, and begins to end.
+-- The session's line is too long: it is answered so, and the session begins to end.
 abbrev pub notified : SessionState → SessionState
 notified x = begin_ending (record x { owed = x.owed ++ too_long_notice })
 

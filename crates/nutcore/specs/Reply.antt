@@ -66,7 +66,7 @@ changed_upses (Order u line) upses = changed_at (with_order line.items) u.place 
 changed_upses (Tracked u id line) upses = changed_at (with_order line.items) u.place upses
 changed_upses _ upses = upses
 
--- to the ids at hand and the tracked orders,
+-- to the available ids and the tracked orders,
 abbrev pub changed_tracking : Change → TrackingState → TrackingState
 changed_tracking (Tracked u id line) t = with_tracked_order u.place t
 changed_tracking _ t = t

@@ -13,7 +13,7 @@ use Rattle.nutcore.specs.Ups.{UpsState, new_ups}
 
 -- moment, max_age: in seconds. list, users, descriptions: what the files say; the UPSs in the byte
 -- order of their names. upses: a state for each UPS of the list. sessions: in the order of opening.
--- next_id: the id of the next session. tracking: the ids at hand, and the tracked orders.
+-- next_id: the id of the next session. tracking: the available ids, and the tracked orders.
 pub record ServerState : Type 0 where
   pub moment : ℕ
   pub max_age : ℕ
@@ -67,7 +67,7 @@ with_tracking t s = record s { tracking = t }
 abbrev pub ups_at : ℕ → ServerState → Option UpsState
 ups_at place s = slice_get s.upses place
 
--- The list in which f changes what stands at the place, if anything does.
+-- The list in which f changes what is at the place, if anything is.
 abbrev pub changed_at : (UpsState → UpsState) → ℕ → List UpsState → List UpsState
 changed_at f place [] = []
 changed_at f zero (x ∷ xs) = f x ∷ xs

@@ -86,7 +86,7 @@ abbrev pub disconnected : UpsState → UpsState
 disconnected x = if x.report.connected then after_loss x else x
 
 -- Drivers report. A whole line of a driver is a step of the server, at its moment: it changes the
--- driver's UPS, and where it tells how an order ended that this UPS waits for, that order.
+-- driver's UPS, and where it reports how an order ended that this UPS waits for, that order.
 unfoldable pub after_driver_line : UpsId → List ℕ → ServerState → ServerState
 after_driver_line u line s =
     with_tracking (with_end u.place (end_in line) s.tracking)

@@ -34,7 +34,7 @@ pub record IsServed (k c : ℕ) (old : ServerState) (events : List Event) (outco
       + lines_done c old events outcomes * k < events_of c events * k
       → (owed c new ≡ []) × (pump_stops new c ≡ true)
 
--- Whatever drivers and other clients do between, and however often the time is told.
+-- Whatever drivers and other clients do between, and however often the clock ticks.
 abbrev pub WhoTakesSomeGetsEverything : Type 0
 WhoTakesSomeGetsEverything =
     (old new : ServerState) (events : List Event) (outcomes : List Outcome) (c k : ℕ)

@@ -26,7 +26,7 @@ use Rattle.nutcore.specs.DriverRuns.{IsNewServer}
 -- A line of the driver of the UPS at this place reports on an order, or does nothing of the kind.
 abbrev pub act_of_end : ℕ → Option OrderEnd → List Act
 act_of_end place None = []
-act_of_end place (Some told) = reported place told.id told.number ∷ []
+act_of_end place (Some e) = reported place e.id e.number ∷ []
 
 -- An executed line of a client gives a tracked order, or does nothing of the kind.
 abbrev pub act_of_change : Change → List Act
@@ -50,7 +50,7 @@ acts s [] os = []
 acts s (e ∷ es) [] = []
 acts s (e ∷ es) (o ∷ os) = acts_in_event s e o ++ acts (after s e o) es os
 
--- The ids at hand and the tracked orders after a run are what these acts make of those before it.
+-- The available ids and the tracked orders after a run are what these acts make of those before it.
 abbrev pub WhatIsTrackedComesOfTheActs : Type 0
 WhatIsTrackedComesOfTheActs =
     (old new : ServerState) (events : List Event) (outcomes : List Outcome)
@@ -58,11 +58,11 @@ WhatIsTrackedComesOfTheActs =
     → new.tracking ≡ after_acts old.tracking (acts old events outcomes)
 
 -- Of a run from a new server. once: an id stands for one order, and there are at most 64 ids and
--- 256 orders. in_order: the ids that were used, in order, and then those at hand are those that
--- were taken in, in order: each is used once, the first one first. last: the orders that are kept
--- are the last 256 that were given. settled: what is told of an order, from when it was given with
--- an id, for as long as it is kept, is pending, up to the first report on it by the driver of its
--- UPS, and from then on what that said.
+-- 256 orders. in_order: the ids that were used, in order, and then the available ones are those
+-- that were taken in, in order: each is used once, the first one first. last: the orders that are
+-- kept are the last 256 that were given. settled: the state of an order, from when it was given
+-- with an id, for as long as it is kept, is pending, up to the first report on it by the driver of
+-- its UPS, and from then on what that said.
 pub record IsTrackedInRun (acts : List Act) (new : ServerState) : Type 0 where
   pub once : IsSoundTracking new.tracking
   pub in_order : map (λ order. order.id) (given nothing_tracked acts) ++ new.tracking.ids

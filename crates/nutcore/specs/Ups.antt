@@ -69,8 +69,8 @@ with_order line x = record x { owed = x.owed ++ line }
 abbrev pub ping_line : List ℕ
 ping_line = codes "PING" ++ 10 ∷ []
 
--- A PING is due where a driver that is connected told nothing, and wasn't pinged, for a third of
--- the greatest age, and the line fits in what it may be owed.
+-- A PING is due where a connected driver sent nothing, and wasn't pinged, for a third of the
+-- greatest age, and the line fits in what it may be owed.
 abbrev pub ping_is_due : ℕ → ℕ → UpsState → Bool
 ping_is_due max_age moment x =
     x.report.connected

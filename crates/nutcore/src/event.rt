@@ -43,8 +43,8 @@ pub enum Event {
     Id(u128),
 }
 
-/// Why an event is refused. Of two that fit, that of the UPS or the client that isn't there is
-/// told first, then that of the connection, then that of the count.
+/// Why an event is refused. Of two that fit, the first is that of the UPS or the client that isn't
+/// there, then that of the connection, then that of the count.
 #[derive(Clone, Copy, Debug, PartialEq, Eq, Error)]
 pub enum Fault {
     /// The server has no such UPS.
@@ -71,10 +71,10 @@ pub enum Fault {
     /// Memory was refused after so many lines of the call.
     #[error("out of memory after {0} lines")]
     Memory(usize),
-    /// The id is at hand already, or a tracked order has it.
+    /// The id is available already, or a tracked order has it.
     #[error("the id is known")]
     KnownId,
-    /// 64 ids are at hand.
+    /// 64 ids are available.
     #[error("too many ids")]
     TooManyIds,
 }

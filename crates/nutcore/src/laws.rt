@@ -4,8 +4,8 @@ ghost use Rattle.nutcore.specs.ByRight.{AForcedShutdownReachesEverybody, ALoginI
 ghost use Rattle.nutcore.specs.Lasting.{WhatNeverGoesBack};
 ghost use Rattle.nutcore.specs.Endings.{WhoIsOverIsAskedNoMore, IdsThatAreGivenRise, ATickTouchesNoSession, AnOpeningTouchesNoOther};
 ghost use Rattle.nutcore.specs.Alone.{OneLineIsAnswered};
-ghost use Rattle.nutcore.specs.OrdersByRight.{EachOrderIsByRight, TheOrdersToldAreThoseOfTheLines};
-ghost use Rattle.nutcore.specs.TellingLines.{EachTellingIsAWholeLine};
+ghost use Rattle.nutcore.specs.OrdersByRight.{EachOrderIsByRight, TheOrdersGivenAreThoseOfTheLines};
+ghost use Rattle.nutcore.specs.ServerLines.{EachLineToADriverIsWhole};
 ghost use Rattle.nutcore.specs.Isolation.{AClientTouchesNoOther, ADriverTouchesNoOther, ARefusedEventChangesNothing, ARefusedEventCostsNothing};
 ghost use Rattle.nutcore.specs.Happenings.{AnswersComeOfWhatHappens, AReplyComesOfWhatIsSeen};
 ghost use Rattle.nutcore.specs.Limits.{Limits};
@@ -15,10 +15,10 @@ ghost use Rattle.nutcore.specs.NotedRuns.{TheNotesOfARunAreWhatChanged};
 ghost use Rattle.nutcore.specs.Taking.{WhoTakesGetsEverything};
 ghost use Rattle.nutcore.specs.NotStuck.{WhoIsOwedLittleHasRoom, WhoEndsIsFinished};
 ghost use Rattle.nutcore.specs.TakingSome.{WhoTakesSomeGetsEverything};
-ghost use Rattle.nutcore.specs.DriverHistory.{WhatADriverToldIsExecuted};
+ghost use Rattle.nutcore.specs.DriverHistory.{WhatADriverReportedIsExecuted};
 ghost use Rattle.nutcore.specs.DriverRuns.{WhatCameSinceConnectingIsExecuted, ALostDriversLinesAreABeginning, WhichLinesAreRefused, RefusedLinesAreCounted, ANewServerCountsAllRefusedLines};
-ghost use Rattle.nutcore.specs.FreshRuns.{TheMomentIsTheGreatestTick, WhateverIsToldIsFresh, WhatADriverSetLastIsHeld, ASilentDriverIsAsked};
-ghost use Rattle.nutcore.specs.DriverOrders.{WhatADriverWasSentAndIsOwedIsWhatItWasTold};
+ghost use Rattle.nutcore.specs.FreshRuns.{TheMomentIsTheGreatestTick, WhateverIsAnsweredIsFresh, WhatADriverSetLastIsHeld, ASilentDriverIsAsked};
+ghost use Rattle.nutcore.specs.DriverOrders.{WhatADriverWasSentAndIsOwedIsWhatItWasGiven};
 ghost use Rattle.nutcore.specs.TrackedRuns.{WhatIsTrackedComesOfTheActs, EachRunTracksItsOrders};
 ghost use Rattle.nutcore.specs.Listed.{EachIsListedOnce, WhatIsListedIsWhatIsHeld};
 ghost use Rattle.nutcore.specs.ReadsBack.{EachListingReadsBack};
@@ -26,7 +26,7 @@ ghost use Rattle.nutcore.specs.AnswersApart.{TheAnswersOfARunAreCutInOneWay};
 ghost use Rattle.nutcore.specs.Addresses.{ANewServerHasLawfulAddresses, EveryRunKeepsAddressesLawful, EveryRunKeepsTheList};
 ghost use Rattle.nutcore.specs.Sound.{ANewServerIsSound, EachEventKeepsTheServerSound, EveryRunKeepsTheServerSound, ASoundServerIsLawful};
 
-use nutanswer::laws::{only_ok_changes, what_is_told_is_fresh};
+use nutanswer::laws::{only_ok_changes, what_is_answered_is_fresh};
 use nutdriver::laws::{
     each_line_keeps_the_tree_sound, lawful_lines_keep_trees_sound, read_lines_are_lawful,
     the_last_line_on_a_variable_decides_it,
@@ -187,9 +187,9 @@ pub fn the_answers_of_a_run_are_cut_in_one_way()
 
 /// What a driver sent is its executed lines, in order, and an unfinished rest. Its report is what
 /// these lines made.
-#[tactic(auto, using(crate::proofs::DriverRuns::told_is_executed))]
-pub fn what_a_driver_told_is_executed()
-    ensures { WhatADriverToldIsExecuted }
+#[tactic(auto, using(crate::proofs::DriverRuns::reported_is_executed))]
+pub fn what_a_driver_reported_is_executed()
+    ensures { WhatADriverReportedIsExecuted }
 {}
 
 /// The same since a driver connected, from a new server on. Of a lost driver, a beginning is
@@ -211,13 +211,13 @@ pub fn refused_lines_are_counted()
 {}
 
 /// In every run from a new server, data are answered and orders accepted only from fresh reports,
-/// as `what_is_told_is_fresh` has it.
-#[tactic(auto, using(crate::proofs::FreshRuns::moment_is_greatest_tick, crate::proofs::FreshRuns::whatever_is_told_is_fresh))]
-pub fn whatever_is_told_is_fresh()
-    ensures fresh { WhateverIsToldIsFresh }
+/// as `what_is_answered_is_fresh` has it.
+#[tactic(auto, using(crate::proofs::FreshRuns::moment_is_greatest_tick, crate::proofs::FreshRuns::whatever_is_answered_is_fresh))]
+pub fn whatever_is_answered_is_fresh()
+    ensures fresh { WhateverIsAnsweredIsFresh }
     ensures moment { TheMomentIsTheGreatestTick }
 {
-    what_is_told_is_fresh();
+    what_is_answered_is_fresh();
     every_server_is_sound();
 }
 
@@ -239,7 +239,7 @@ pub fn what_a_driver_set_last_is_held()
 /// `PING`s of the run, in order. A lost driver took a beginning.
 #[tactic(auto, using(crate::proofs::DriverRuns::sent_to_drivers))]
 pub fn what_a_driver_was_sent_and_is_owed()
-    ensures { WhatADriverWasSentAndIsOwedIsWhatItWasTold }
+    ensures { WhatADriverWasSentAndIsOwedIsWhatItWasGiven }
 {
     every_server_is_sound();
 }
@@ -253,8 +253,8 @@ pub fn each_order_is_by_right()
 
 /// The orders that a run gave to a driver are those of its executed lines, in their order.
 #[tactic(auto, using(crate::proofs::OrdersByRight::run_orders))]
-pub fn the_orders_told_are_those_of_the_lines()
-    ensures { TheOrdersToldAreThoseOfTheLines }
+pub fn the_orders_given_are_those_of_the_lines()
+    ensures { TheOrdersGivenAreThoseOfTheLines }
 {}
 
 /// In every run from a new server an id stands for one order, the last 256 orders are kept, and
@@ -266,9 +266,9 @@ pub fn each_run_tracks_its_orders()
 
 /// A driver is sent only whole lines: `DUMPALL`, `PING`, and `SET` or `INSTCMD` with lawful names
 /// and values.
-#[tactic(auto, using(crate::proofs::TellingLines::run_tells))]
-pub fn each_telling_is_a_whole_line()
-    ensures { EachTellingIsAWholeLine }
+#[tactic(auto, using(crate::proofs::ServerLines::run_gives))]
+pub fn each_line_to_a_driver_is_whole()
+    ensures { EachLineToADriverIsWhole }
 {}
 
 /// The server executes the least number of lines after which it must stop.

@@ -1,4 +1,5 @@
-//! The core of upsd: the state of each UPS, the sessions of clients, and what each event does to them.
+//! The core of upsd: the state of each UPS, the sessions of clients, and what each event does to
+//! them.
 #![tactic(auto)]
 
 mod cost;

@@ -15,19 +15,19 @@ use nutusers::{UpsId, UserName};
 use nutwords::{Address, Name, UpsName, Value};
 use std::fmt::{self, Formatter, Write};
 
-/// The most notes of an event: those of as many commands as a session holds, each of four bytes at least with its LF, and
-/// one where it begins to end.
+/// The most notes of an event: those of as many commands as a session holds, each of four bytes at
+/// least with its LF, and one where it begins to end.
 pub const NOTE_LIMIT: usize = HELD_LIMIT / 4 + 1;
 
 /// What an event did. It has names, and never a value or a password.
 #[derive(Drop)]
 pub enum Note {
-    /// The data of the UPS stand so from now on.
+    /// The data of the UPS have this state from now on.
     Data(UpsId, DataState),
     /// The driver reports another `ups.status`.
     StatusChanged(UpsId),
-    /// So many lines of the driver were refused, and why the last one was: none where it reported on an order that isn't
-    /// awaited.
+    /// So many lines of the driver were refused, and why the last one was: none where it reported
+    /// on an order that isn't awaited.
     LinesRefused(UpsId, u64, Option<DriverFault>),
     /// A session that is logged in to the UPS begins to end, or is closed.
     LoggedOut(UpsId, Who),
@@ -35,7 +35,7 @@ pub enum Note {
     Did(Deed),
 }
 
-/// How the data of a UPS stand.
+/// The state of the data of a UPS.
 #[derive(Clone, Copy, Debug, Default, PartialEq, Eq)]
 pub enum DataState {
     /// No driver is connected.
@@ -45,7 +45,8 @@ pub enum DataState {
     Awaited,
     /// A driver has reported everything. Clients get it.
     Good,
-    /// A driver has reported everything. Clients don't get it: it says that it is out of date, or was silent.
+    /// A driver has reported everything. Clients don't get it: it says that it is out of date, or
+    /// was silent.
     Stale,
 }
 
@@ -84,7 +85,8 @@ pub enum Verb {
     InstCmd,
 }
 
-/// What a line of a client did: it logged in, set a forced shutdown or gave an order to a driver; or it was refused.
+/// What a line of a client did: it logged in, set a forced shutdown or gave an order to a driver;
+/// or it was refused.
 #[derive(Drop)]
 pub struct Deed {
     /// Whose line it was.
@@ -108,35 +110,36 @@ pub(crate) struct Look {
     pub fault: Option<DriverFault>,
     /// Its `ups.status`, if its driver has reported one.
     pub status: Option<Value>,
-    /// How its data stand.
+    /// The state of its data.
     pub state: DataState,
 }
 
 /// The notes of an event.
 pub(crate) type Notes = BoundedList<Note, NOTE_LIMIT>;
 
-/// The note of how the data of a UPS stand, where they stood otherwise.
+/// The note of the state of a UPS's data, where it was another.
 pub(crate) fn data_note(u: UpsId, was: DataState, is: DataState) -> Option<Note>
     ensures { result ≡ data_note u was is }
 {
     (is != was).then_some(Note::Data(u, is))
 }
 
-/// Notes what a line did that was read and answered so: one that changes nothing only where it is refused.
+/// Notes what a line did that was read and answered so: one that changes nothing only where it is
+/// refused.
 pub(crate) fn add_line(notes: &mut Notes, session: &Session, read: &ReadLine<'_>, reply: &Reply<'_>)
     ensures { notes.new ≡ with_note (note_in_reply session.now read.now reply.now) notes.old }
 {
     if let Reply::One(text, change) = reply {
         if !matches!(change, Change::Nothing) || text.starts_with(b"ERR ") {
-            add_told(notes, session, read, text);
+            add_deed(notes, session, read, text);
         }
     }
 }
 
-/// Notes what a line did that was read so, and answered by this text. It is a call of its own, so that no other line pays
-/// for the room of a note.
+/// Notes what a line did that was read so, and answered by this text. It is a call of its own, so
+/// that no other line pays for the room of a note.
 #[inline(never)]
-fn add_told(notes: &mut Notes, session: &Session, read: &ReadLine<'_>, text: &[u8])
+fn add_deed(notes: &mut Notes, session: &Session, read: &ReadLine<'_>, text: &[u8])
     ensures { notes.new ≡ with_note (note_read session.now read.now text.now) notes.old }
 {
     let (verb, ups, name) = match read {

@@ -2,8 +2,9 @@
 use nutlisting::Clients;
 use nutwords::Line;
 
-/// Where a line of an answer is made before it is placed, the count of those lines, and where the clients of a UPS are
-/// put together. It is made once, with the server, so that none of it is made anew for a line.
+/// Where a line of an answer is made before it is placed, the count of those lines, and where the
+/// clients of a UPS are put together. It is made once, with the server, and used again for each
+/// line.
 #[derive(Drop)]
 pub(crate) struct Scratch {
     pub(crate) line: Line,

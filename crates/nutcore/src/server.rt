@@ -76,10 +76,34 @@ impl Model for Server {
 
     ghost Value = { RunningServer };
 
-    ghost view = { λ s. record { state = record { moment = s.moment; max_age = s.max_age; list = s.list; users = s.users; descriptions = s.descriptions; upses = s.upses.items; sessions = s.sessions.items; next_id = s.last_id + 1; tracking = s.tracking }; cost = record { rendered = s.scratch.renders; placed = s.placed }; notes = s.notes } };
+    ghost view = { λ s. record {
+      state = record {
+        moment = s.moment;
+        max_age = s.max_age;
+        list = s.list;
+        users = s.users;
+        descriptions = s.descriptions;
+        upses = s.upses.items;
+        sessions = s.sessions.items;
+        next_id = s.last_id + 1;
+        tracking = s.tracking;
+      };
+      cost = record { rendered = s.scratch.renders; placed = s.placed };
+      notes = s.notes;
+    } };
 
     ghost invariant = { λ s. record {
-      sound : IsSound (record { moment = s.moment; max_age = s.max_age; list = s.list; users = s.users; descriptions = s.descriptions; upses = s.upses.items; sessions = s.sessions.items; next_id = s.last_id + 1; tracking = s.tracking });
+      sound : IsSound (record {
+        moment = s.moment;
+        max_age = s.max_age;
+        list = s.list;
+        users = s.users;
+        descriptions = s.descriptions;
+        upses = s.upses.items;
+        sessions = s.sessions.items;
+        next_id = s.last_id + 1;
+        tracking = s.tracking;
+      });
       room : SESSION_LIMIT ≤ vec_capacity s.sessions;
     } };
 }
@@ -239,13 +263,13 @@ impl Server {
         Ok(())
     }
 
-    /// Bytes come from a driver. Each whole line is done, a refused one counted; where 2,048 bytes
-    /// stand without an LF, or memory is refused, the driver is lost and the rest is dropped.
+    /// Bytes come from a driver. Each whole line is done, a refused one counted. Where 2,048 bytes
+    /// come without an LF, or memory is refused, the driver is lost and the rest is dropped.
     ///
     /// # Errors
     ///
-    /// `NoSuchUps` and `NotConnected`, which change nothing but the cost; `LineTooLong`, after the lines
-    /// before; `Memory`, with how many lines of the call were done.
+    /// `NoSuchUps` and `NotConnected`, which change nothing but the cost; `LineTooLong`, after the
+    /// lines before; `Memory`, with how many lines of the call were done.
     pub fn driver_bytes(&mut self, u: UpsId, piece: &[u8]) -> Result<(), Fault>
         ensures served { Serves self.old.state (Event.DriverBytes u piece.now)
             (done result) self.new.state }
@@ -262,8 +286,8 @@ impl Server {
         result
     }
 
-    /// What is offered to the driver: all that it is owed, at most 2,048 bytes, and nothing where it isn't connected. It
-    /// changes nothing.
+    /// What is offered to the driver: all that it is owed, at most 2,048 bytes, and nothing where
+    /// it isn't connected. It changes nothing.
     ///
     /// # Errors
     ///
@@ -332,8 +356,9 @@ impl Server {
         Ok(())
     }
 
-    /// The clock is at so many seconds. The moment never goes back. Each driver from which nothing was heard for a third
-    /// of the greatest age, and which wasn't asked for as long, is owed `PING`, where it fits. Takes no memory.
+    /// The clock is at so many seconds. The moment never goes back. Each driver from which nothing
+    /// was heard for a third of the greatest age, and which wasn't asked for as long, is owed
+    /// `PING`, where it fits. Takes no memory.
     pub fn tick(&mut self, seconds: u64)
         ensures served { Serves self.old.state (Event.Tick seconds) Outcome.Done self.new.state }
         ensures cost { Costs self.old (Event.Tick seconds) self.new }
@@ -402,9 +427,9 @@ impl Server {
     ///
     /// # Errors
     ///
-    /// `NoSuchClient` changes nothing but the cost. After `LineTooLong` the session is told `ERR TOO-LONG`, and
-    /// is ending. After `Memory(k)` k lines were executed, and the next one, a listing, stays held:
-    /// it is tried again at the next call.
+    /// `NoSuchClient` changes nothing but the cost. After `LineTooLong` the session is sent
+    /// `ERR TOO-LONG`, and is ending. After `Memory(k)` k lines were executed, and the next one, a
+    /// listing, stays held: it is tried again at the next call.
     pub fn feed(&mut self, c: ClientId, piece: &[u8]) -> Result<usize, Fault>
         ensures served { Serves self.old.state (Event.Feed c piece.now)
             (fed result) self.new.state }
@@ -439,7 +464,8 @@ impl Server {
         Ok(session.offer())
     }
 
-    /// What the session owes its client, as it is kept: the queue of offered bytes, and a cursor while something rests.
+    /// What the session owes its client, as it is kept: the queue of offered bytes, and a cursor
+    /// while something rests.
     ///
     /// # Errors
     ///
@@ -469,8 +495,8 @@ impl Server {
     ///
     /// # Errors
     ///
-    /// `NoSuchClient` and `TookTooMuch` change nothing but the cost. After `LineTooLong` and `Memory` the bytes
-    /// are taken; else they leave what they leave at `feed`.
+    /// `NoSuchClient` and `TookTooMuch` change nothing but the cost. After `LineTooLong` and
+    /// `Memory` the bytes are taken; else they leave what they leave at `feed`.
     pub fn took(&mut self, c: ClientId, n: usize) -> Result<(), Fault>
         ensures served { Serves self.old.state (Event.Took c n) (done result) self.new.state }
         ensures cost { Costs self.old (Event.Took c n) self.new }
@@ -520,8 +546,8 @@ impl Server {
     ///
     /// # Errors
     ///
-    /// `KnownId`, where it is at hand or a tracked order has it, and then `TooManyIds`, where 64 are at hand. Both change
-    /// nothing but the cost.
+    /// `KnownId`, where it is available or a tracked order has it, and then `TooManyIds`, where 64
+    /// are available. Both change nothing but the cost.
     pub fn id(&mut self, id: u128) -> Result<(), Fault>
         ensures served { Serves self.old.state (Event.Id id) (done result) self.new.state }
         ensures cost { Costs self.old (Event.Id id) self.new }

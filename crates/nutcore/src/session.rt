@@ -53,7 +53,17 @@ pub(crate) struct Session {
 impl Model for Session {
     ghost Value = { SessionState };
 
-    ghost view = { λ s. record { id = s.id; address = s.address; held = drop s.executed s.held; owed = owed s.outbox; username = s.username; password = s.password; login = s.login; ending = s.ending; tracking = s.tracking } };
+    ghost view = { λ s. record {
+      id = s.id;
+      address = s.address;
+      held = drop s.executed s.held;
+      owed = owed s.outbox;
+      username = s.username;
+      password = s.password;
+      login = s.login;
+      ending = s.ending;
+      tracking = s.tracking;
+    } };
 
     ghost invariant = { λ s. (s.executed ≤ length s.held) × (length s.held ≤ HELD_LIMIT) };
 }
@@ -137,7 +147,7 @@ impl Session {
         }
     }
 
-    /// How it stands.
+    /// Its status.
     pub(crate) fn standing(&self) -> Standing
         ensures { result ≡ standing_of self.now }
     {
@@ -196,8 +206,9 @@ impl Session {
         &self.waiting()[..end]
     }
 
-    /// Takes the next line, which ends there, joins its answer to what is owed, and does what that changes of the session.
-    /// The clients in the scratch are those that the answer lists. Takes no memory.
+    /// Takes the next line, which ends there, joins its answer to what is owed, and does what that
+    /// changes of the session. The clients in the scratch are those that the answer lists. Takes no
+    /// memory.
     #[tactic(auto, using(crate::proofs::Pumping::taking))]
     pub(crate) fn answer(&mut self, reply: Reply<'_>, end: usize, scratch: &mut Scratch)
         requires going { option_map length (next_line self.old) ≡ Some end }
@@ -227,11 +238,12 @@ impl Session {
         }
     }
 
-    /// A session that holds 2,048 bytes without an LF is told so, and begins to end, which is noted.
+    /// A session that holds 2,048 bytes without an LF is sent `ERR TOO-LONG`, and begins to end,
+    /// which is noted.
     ///
     /// # Errors
     ///
-    /// `LineTooLong`, where it is told so.
+    /// `LineTooLong`, where it is sent `ERR TOO-LONG`.
     pub(crate) fn refuse_overlong(
         &mut self,
         renders: &mut u64,

@@ -44,7 +44,15 @@ impl Model for Ups {
 
     ghost Value = { UpsState };
 
-    ghost view = { λ u. record { report = u.report; pinged = u.pinged; fsd = u.fsd; owed = u.owed.items; unfinished = u.cut; faulty = u.faulty; fault = u.fault } };
+    ghost view = { λ u. record {
+      report = u.report;
+      pinged = u.pinged;
+      fsd = u.fsd;
+      owed = u.owed.items;
+      unfinished = u.cut;
+      faulty = u.faulty;
+      fault = u.fault;
+    } };
 
     ghost invariant = { λ u. u.status ≡ value_of u.report.tree (codes "ups.status") };
 }
@@ -67,8 +75,9 @@ impl Ups {
         }
     }
 
-    /// How its data stand at the moment. Clients see them only while they are good: the driver is connected, has reported
-    /// all that it knows, says that they are right, and was heard within the greatest age.
+    /// The state of its data at the moment. Clients see them only while they are good: the driver
+    /// is connected, has reported all that it knows, says that they are right, and was heard within
+    /// the greatest age.
     pub(crate) fn data_state(&self, max_age: u32, moment: u64) -> DataState
         ensures { result ≡ data_state_of max_age moment self.now }
     {
@@ -194,21 +203,22 @@ impl Ups {
         self.status = None;
     }
 
-    /// Tells where the next line of its driver lies, in what it holds and a piece. Where none is whole, all of the piece is
-    /// held.
+    /// Where the next line of its driver is, in what it holds and a piece. Where none is whole, all
+    /// of the piece is held.
     pub(crate) fn find_line(&mut self, piece: &[u8]) -> Found
         ensures { IsCut piece.now self.old result self.new }
     {
         self.cut.find(piece)
     }
 
-    /// Does what a whole line of its driver says: so many bytes at the front of the piece, or else what it holds. It holds
-    /// nothing any more. The answer tells whether the line is refused, or what it reports of an order.
+    /// Does what a whole line of its driver says: so many bytes at the front of the piece, or else
+    /// what it holds. It holds nothing any more. The answer is whether the line is refused, or what
+    /// it reports of an order.
     ///
     /// # Errors
     ///
-    /// Memory was refused, for which only a line that would change the tree asks. It was heard then, and changed nothing
-    /// more.
+    /// Memory was refused, for which only a line that would change the tree asks. It was heard
+    /// then, and changed nothing more.
     pub(crate) fn execute(
         &mut self,
         moment: u64,
@@ -242,7 +252,8 @@ impl Ups {
     }
 }
 
-// Inlined, these two would have their room on the stack cleared at each line, also where neither is called.
+// Inlined, these two would have their room on the stack cleared at each line, also where neither is
+// called.
 
 /// Copies the value.
 #[inline(never)]

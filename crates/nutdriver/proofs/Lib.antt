@@ -3,6 +3,6 @@ pub mod TreeLemmas
 pub mod LawfulLines
 pub mod SoundTrees
 pub mod LineLemmas
-pub mod ToldNumbers
+pub mod ReportedNumbers
 mod LastLine
 pub mod PublicLaws

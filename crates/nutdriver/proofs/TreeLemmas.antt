@@ -77,7 +77,7 @@ module _ {V F : Type 0} (replaced : CountsReplaced V) {g : Once F (MutBor V × U
       rw (d.leaves, replaced es k d.after d.before rising d.there) few
   few_changed false es new rising changed unchanged few = rw (unchanged refl) few
 
--- what a call does to what is behind its reference
+-- what a call does to what its reference is to
 pub of_call : {F V R : Type 0} {g : Once F (MutBor V × Unit {0}) (R × (MutBor V × Unit {0}))} {f : F} {x y : V} {r : R} (P : V → V → Type 0) (called : FnOnceReturnsAtMut g f x r y) → P called.shown.now called.left.now → P x y
 of_call {V = V} {y = y} P called p = subst (λ (z : V). P z y) called.shows (subst (P called.shown.now) called.leaves p)
 

@@ -20,7 +20,7 @@ abbrev pub line_of : {X : Type 0} → (X → DriverLine) → Result X DriverFaul
 line_of line (Err fault) = Err fault
 line_of line (Ok arguments) = Ok (line arguments)
 
--- A word that stands alone on its line.
+-- A word that is by itself on its line.
 abbrev pub alone : DriverLine → List (List ℕ) → Result DriverLine DriverFault
 alone line [] = Ok line
 alone line (word ∷ words) = Err Malformed

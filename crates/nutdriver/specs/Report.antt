@@ -35,14 +35,14 @@ after_effect DataStale report = record report { ok = false }
 after_effect Pong report = report
 after_effect (OrderTracked id number) report = report
 
--- What is told of a line that was done.
-abbrev pub told_of : Effect → LineOutcome
-told_of (OrderTracked id number) = Tracked id number
-told_of _ = Accepted
+-- What comes of a line that was done.
+abbrev pub effect_outcome : Effect → LineOutcome
+effect_outcome (OrderTracked id number) = Tracked id number
+effect_outcome _ = Accepted
 
 abbrev pub after_step : Report → Result (TreeState × Effect) DriverFault → Report × LineOutcome
 after_step report (Ok (tree, effect)) =
-    (after_effect effect (record report { tree = tree }), told_of effect)
+    (after_effect effect (record report { tree = tree }), effect_outcome effect)
 after_step report (Err fault) = (report, Refused fault)
 
 abbrev pub after_reading : Report → Result DriverLine DriverFault → Report × LineOutcome
@@ -54,7 +54,7 @@ abbrev pub after_line : ℕ → Report → List ℕ → Report × LineOutcome
 after_line moment report line =
     after_reading (record report { heard = moment }) (read_driver_line line)
 
--- How an order ended: its id, and the number that its driver tells.
+-- How an order ended: its id, and the number that its driver reports.
 pub record OrderEnd : Type 0 where
   pub id : ℕ
   pub number : ℕ
@@ -68,23 +68,23 @@ abbrev pub end_in : List ℕ → Option OrderEnd
 end_in line = end_read (read_driver_line line)
 
 -- What the outcome of a line says of an order.
-abbrev pub end_told : LineOutcome → Option OrderEnd
-end_told (Tracked id number) = Some (record { id = id; number = number })
-end_told _ = None
+abbrev pub reported_end : LineOutcome → Option OrderEnd
+reported_end (Tracked id number) = Some (record { id = id; number = number })
+reported_end _ = None
 
--- What the outcome of a line tells of an order is what the line says of it.
-abbrev pub WhatIsToldOfAnOrderIsRead : Type 0
-WhatIsToldOfAnOrderIsRead =
+-- What the outcome of a line says of an order is what the line says of it.
+abbrev pub WhatIsReportedOfAnOrderIsRead : Type 0
+WhatIsReportedOfAnOrderIsRead =
     (moment : ℕ) (report : Report) (line : List ℕ)
-    → end_told (after_line moment report line).1 ≡ end_in line
+    → reported_end (after_line moment report line).1 ≡ end_in line
 
 -- The number of a report on an order is one that an order may be done with.
 abbrev pub HasLawfulNumber : LineOutcome → Type 0
 HasLawfulNumber (Tracked id number) = number ≤ DONE_LIMIT
 HasLawfulNumber _ = ⊤
 
-abbrev pub ToldNumbersAreLawful : Type 0
-ToldNumbersAreLawful =
+abbrev pub ReportedNumbersAreLawful : Type 0
+ReportedNumbersAreLawful =
     (moment : ℕ) (report : Report) (line : List ℕ)
     → HasLawfulNumber (after_line moment report line).1
 

@@ -19,7 +19,7 @@ use Rattle.nutdriver.specs.DriverLine.{read_driver_line}
 use Rattle.nutdriver.specs.DriverStep.{driver_step}
 use Rattle.nutdriver.specs.Report.{after_line}
 
--- No item stands there twice.
+-- No item is there twice.
 abbrev pub HasNoRepeats : {X : Type 0} → List X → Type 0
 HasNoRepeats items = AllPairs (λ a b. a ≢ b) items
 

@@ -12,7 +12,7 @@ use Rattle.nutdriver.specs.declared.flags.Flags.{Flags}
 use Rattle.nutdriver.specs.declared.range.Range.{Range}
 use Rattle.nutdriver.specs.Flags.{no_flags}
 
--- Enum values and ranges stand in the order in which they were added, none twice.
+-- Enum values and ranges are in the order in which they were added, none twice.
 pub record VariableState : Type 0 where
   pub value : List ℕ
   pub flags : Flags

@@ -12,11 +12,12 @@ use smallvec::SmallVec;
 use std::alloc::{AllocError, Global};
 use std::marker::Model;
 
-/// How many bytes of a value stand in the variable itself, in bytes. A longer value has memory of its own, in its size.
+/// How many bytes of a value are in the variable itself. A longer value has memory of its own, in
+/// its size.
 const SHORT_LENGTH: usize = 16;
 
-/// The word of a driver's line that is a value. It borrows the line, and is unescaped where it is kept. Contracts see the
-/// value.
+/// The word of a driver's line that is a value. It borrows the line, and is unescaped where it is
+/// kept. Contracts see the value.
 #[derive(Drop)]
 pub struct SpelledValue<'a> {
     word: SpelledWord<'a>,
@@ -35,8 +36,8 @@ impl<'a> Model for SpelledValue<'a> {
 }
 
 impl<'a> SpelledValue<'a> {
-    /// The word, where it is a value. The bytes of a word are lawful, so the one thing that can be wrong with it is its
-    /// length.
+    /// The word, where it is a value. The bytes of a word are lawful, so the one thing that can be
+    /// wrong with it is its length.
     pub(crate) fn of(word: SpelledWord<'a>) -> Result<SpelledValue<'a>, DriverFault>
         ensures { result ≡ lawful_value (read_value (spelled word.entry)) }
     {
@@ -79,8 +80,8 @@ fn are_lawful(bytes: &[u8]) -> bool
     bytes.iter().all(|b| OfValue::allows(*b))
 }
 
-/// A value in its own size: most are a few bytes, and a whole `Value` takes the place of the longest. Contracts see its
-/// bytes.
+/// A value in its own size: most are a few bytes, and a whole `Value` takes the place of the
+/// longest. Contracts see its bytes.
 #[derive(Drop)]
 pub(crate) struct KeptValue {
     pub(crate) bytes: SmallVec<u8, SHORT_LENGTH>,

@@ -9,8 +9,8 @@ use std::alloc::{AllocError, Global};
 use std::marker::Model;
 use std::rc::Rc;
 
-/// What a variable has beside its value. Variables may share it, by `Rc`, and kinds that differ in flags and aux alone
-/// may share their lists.
+/// What a variable has beside its value. Variables may share it, by `Rc`, and kinds that differ
+/// only in flags and aux may share their lists.
 #[derive(Drop)]
 pub(crate) struct Kind {
     pub(crate) flags: Flags,

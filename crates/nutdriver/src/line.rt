@@ -27,7 +27,8 @@ pub enum DriverLine<'a> {
     AddRange(Name, Range),
     /// `DELRANGE`: it no longer has this range.
     DelRange(Name, Range),
-    /// `SETAUX`: the variable's aux, from 0 to 1,000,000,000: for a text, the most bytes that it may have.
+    /// `SETAUX`: the variable's aux, from 0 to 1,000,000,000: for a text, the most bytes that it
+    /// may have.
     SetAux(Name, u32),
     /// `SETFLAGS`: the variable has exactly these flags.
     SetFlags(Name, Flags),
@@ -54,9 +55,10 @@ impl<'a> DriverLine<'a> {
 
     /// Reads a line without its LF, of at most 2,047 bytes. Takes no memory.
     ///
-    /// The first word and flags are read in capitals or not. Refused, in this order: a line that doesn't read as words
-    /// (1); an unknown first word (2); another number of words, an unlawful name or a word that is no id (1); a value above
-    /// 512 bytes (7); a bad number, or a range whose ends are the wrong way round (5); an unknown flag (6).
+    /// The first word and flags are read in capitals or not. Refused, in this order: a line that
+    /// doesn't read as words (1); an unknown first word (2); another number of words, an unlawful
+    /// name or a word that is no id (1); a value above 512 bytes (7); a bad number, or a range
+    /// whose ends are the wrong way round (5); an unknown flag (6).
     pub fn read(line: &'a [u8]) -> Result<DriverLine<'a>, DriverFault>
         requires { length line.now ≤ LINE_LIMIT }
         ensures { result ≡ read_driver_line line.now }
@@ -80,7 +82,8 @@ impl<'a> DriverLine<'a> {
         }
     }
 
-    /// The line with this first word: one of a variable's value or enum values, or else of another kind.
+    /// The line with this first word: one of a variable's value or enum values, or else of another
+    /// kind.
     fn of_value(
         first: &SpelledWord<'_>,
         words: SpelledWords<'a>,
@@ -103,7 +106,8 @@ impl<'a> DriverLine<'a> {
         }
     }
 
-    // Those below stay a call of their own: what is inlined is cleared where a function begins, for each SETINFO too.
+    // Those below stay a call of their own: what is inlined is cleared where a function begins, for
+    // each SETINFO too.
 
     /// The line of a variable's ranges, aux or flags, or else of another kind.
     #[inline(never)]
@@ -157,7 +161,7 @@ impl<'a> DriverLine<'a> {
         }
     }
 
-    /// The line, where no further word stands on it.
+    /// The line, where it has no further word.
     fn alone(self, mut words: SpelledWords<'a>) -> Result<DriverLine<'a>, DriverFault>
         ensures { result ≡ alone self.entry words.entry }
     {

@@ -17,10 +17,12 @@ use std::rc::Rc;
 /// What becomes of a variable: `None` where it stays as it is.
 pub(crate) type Change = Result<Option<Variable>, DriverFault>;
 
-/// A variable of a UPS: its value, and what values it may have (RFC 9271: GET TYPE, LIST ENUM, LIST RANGE).
+/// A variable of a UPS: its value, and what values it may have (RFC 9271: GET TYPE, LIST ENUM, LIST
+/// RANGE).
 ///
-/// The versions of a tree share a variable, which isn't changed while they do. A variable that another one becomes shares
-/// what isn't changed: all but the value, or the lists. Contracts see the record of what it has.
+/// The versions of a tree share a variable, which isn't changed while they do. A variable that
+/// another one becomes shares what isn't changed: all but the value, or the lists. Contracts see
+/// the record of what it has.
 #[derive(Drop)]
 pub struct Variable {
     alloc: Global,
@@ -75,7 +77,8 @@ impl Variable {
         self.kind.aux
     }
 
-    /// The values that it may have, in the order in which the driver added them. Where there are none, any will do.
+    /// The values that it may have, in the order in which the driver added them. Where there are
+    /// none, any will do.
     pub fn enum_values(&self) -> &[Value]
         ensures value { result.now ≡ self.now.enum_values }
         ensures few { length result.now ≤ ENUM_LIMIT }
@@ -83,8 +86,8 @@ impl Variable {
         self.kind.enum_values()
     }
 
-    /// The ranges of numbers that it may have, in the order in which the driver added them. Where there are none, any
-    /// will do.
+    /// The ranges of numbers that it may have, in the order in which the driver added them. Where
+    /// there are none, any will do.
     pub fn ranges(&self) -> &[Range]
         ensures value { result.now ≡ self.now.ranges }
         ensures few { length result.now ≤ RANGE_LIMIT }

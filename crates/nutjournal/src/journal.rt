@@ -12,7 +12,8 @@ use std::mem;
 /// The most refusals that are logged in a second.
 pub const REFUSAL_LIMIT: usize = 64;
 
-/// How often in a minute it is logged at once that a driver is lost. If it is lost more often, the number is logged.
+/// How often in a minute it is logged at once that a driver is lost. If it is lost more often, the
+/// number is logged.
 const LOSS_LIMIT: u64 = 2;
 
 /// In seconds.
@@ -53,8 +54,8 @@ pub struct Journal {
 }
 
 impl Journal {
-    /// Nothing was logged yet. With priorities each line begins with its own, as `<4>`. Data that haven't come within the
-    /// greatest age are logged as stale.
+    /// Nothing was logged yet. With priorities each line begins with its own, as `<4>`. Data that
+    /// haven't come within the greatest age are logged as stale.
     ///
     /// # Errors
     ///
@@ -75,8 +76,12 @@ impl Journal {
         })
     }
 
-    /// Logs the notes of the server's last event. Where a second begins, it first logs all else. Where neither is so it does
-    /// nothing.
+    /// Logs the notes of the server's last event. Where a second begins, it first logs all else.
+    /// Where neither is so it does nothing.
+    ///
+    /// `error_of` gives the number of the system's error by which the driver of a UPS couldn't be
+    /// connected to. `sent_away` is how many clients were sent away for want of room since the
+    /// start, and `is_record_cut` whether the record of events has ended early.
     pub fn write<E: Fn(UpsId) -> Option<i32>>(
         &mut self,
         rt: &HostRuntime,
@@ -107,8 +112,9 @@ impl Journal {
         self.log.flush(rt);
     }
 
-    /// Logs what is new in this second of the drivers, of the clients and of the record, and at the end of a minute which
-    /// drivers were lost too often. A driver that hasn't reported everything within the greatest age is logged as stale.
+    /// Logs what is new in this second of the drivers, of the clients and of the record, and at the
+    /// end of a minute which drivers were lost too often. A driver that hasn't reported everything
+    /// within the greatest age is logged as stale.
     fn log_news<E: Fn(UpsId) -> Option<i32>>(
         &mut self,
         server: &Server,
@@ -153,7 +159,8 @@ impl Journal {
     }
 }
 
-/// Whether the note is logged: of each session at most one refusal is in a second. From now on it was.
+/// Whether the note is logged: of each session at most one refusal is in a second. From now on it
+/// was.
 fn take_turn(refused: &mut Refused, note: &Note) -> bool
     ensures logged { result ≡ is_logged refused.old.items note.now }
     ensures after { refused.new.items ≡ after_note refused.old.items note.now }
@@ -197,8 +204,8 @@ fn log_note(log: &mut LogBuffer, drivers: &mut Drivers, server: &Server, note: &
     }
 }
 
-/// Logs what a line of a client did. Each command has its name, what is said where it was granted, and the priority of
-/// that.
+/// Logs what a line of a client did. Each command has its name, what is said where it was granted,
+/// and the priority of that.
 fn add_deed(log: &mut LogBuffer, deed: &Deed) {
     let (ups, name, who) = (deed.ups.as_ref(), deed.name.as_ref(), &deed.who);
     let (command, granted, priority) = match deed.verb {

@@ -1,4 +1,5 @@
-//! The journal of a server: what is logged of its UPSs and their clients, and the lines on their way to standard error.
+//! The journal of a server: what is logged of its UPSs and their clients, and the lines on their
+//! way to standard error.
 #![tactic(auto)]
 
 mod journal;

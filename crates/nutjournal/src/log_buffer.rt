@@ -1,4 +1,5 @@
-//! The lines of the journal on their way to standard error. It may be a pipe that nobody reads, so no write waits.
+//! The lines of the journal on their way to standard error. It may be a pipe that nobody reads, so
+//! no write waits.
 ghost use Rattle.std.specs.Prelude.{◌≡◌, [], IfOk};
 ghost use Rattle.nutjournal.specs.LogBuffer.{after_line};
 
@@ -56,8 +57,8 @@ impl LogBuffer {
         })
     }
 
-    /// Adds a line of this priority, about the UPS if there is one. A line that has no room is dropped and counted. So are
-    /// those after it, until the count is logged. Takes no memory.
+    /// Adds a line of this priority, about the UPS if there is one. A line that has no room is
+    /// dropped and counted. So are those after it, until the count is logged. Takes no memory.
     pub fn add<D: Display>(&mut self, priority: u8, ups: Option<&UpsName>, line: &D) {
         let mut text = ArrayString::<LINE_LIMIT>::new();
         if self.has_priorities {

@@ -1,4 +1,4 @@
--- Names, values, quoted texts and numbers have lawful bytes alone, and how many.
+-- Names, values, quoted texts and numbers have only lawful bytes, and how many.
 use Rattle.std.proofs.Common.{◌≡◌, ℕ, ℤ, pos, negsuc, ◌+◌, ◌%◌, ◌^◌, ◌<◌, Bool, true, false, eqb, cond, List, [], ◌∷◌, ◌++◌, length, ◌≤◌, Option, Some, None, refl, ◌∙◌, suc, arith, SFits, w32, length-append}
 use Rattle.std.specs.Prelude.{◌||◌, ◌&&◌, ◌≤ℤ◌, neg_ℤ, is_ok, IsTrue, codes}
 use Rattle.std.specs.Int.Signed.{mag}
@@ -38,7 +38,7 @@ both_lawful a b h k = list_all-append is_lawful a b ∙ and_from (list_all is_la
 pub byte_lawful : (b : ℕ) (text : List ℕ) → is_lawful b ≡ true → Lawful text → Lawful (b ∷ text)
 byte_lawful b text h k = and_from (is_lawful b) (list_all is_lawful text) h k
 
--- what is read as a text has these bytes alone, and no more of them
+-- what is read as a text has only these bytes, and no more of them
 pub text_all : (allowed : ℕ → Bool) (may_be_empty : Bool) (most : ℕ) (bytes : List ℕ) → is_ok (read_text allowed may_be_empty most bytes) ≡ true → list_all allowed bytes ≡ true
 text_all allowed may_be_empty most bytes h = grind (arith, nat_tests, common_steps)
 

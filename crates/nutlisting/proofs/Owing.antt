@@ -7,7 +7,7 @@ use Rattle.nutlisting.specs.Owed.{rest_of, IsOutbox}
 use Rattle.nutlisting.specs.declared.outbox.TheConstants.{OWED_LIMIT}
 use Rattle.nutlisting.specs.declared.byte_queue.TheConstants.{QUEUE_LIMIT}
 
--- the queue alone
+-- only the queue
 pub offered_is : (queue : List ℕ) (cursor : Option Position) → IsOutbox queue cursor → take QUEUE_LIMIT (queue ++ rest_of cursor) ≡ queue
 offered_is queue None o = ap (take QUEUE_LIMIT) (append-nil queue) ∙ take_all QUEUE_LIMIT queue o.short
 offered_is queue (Some cursor) o = take_at queue (rest cursor) QUEUE_LIMIT o.while_resting.full

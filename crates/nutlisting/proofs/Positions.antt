@@ -114,7 +114,7 @@ left_at content (Names, last) offset h = eqb-pos _ (items_left (items_past conte
 left_at content (Items n, last) offset h = eqb-pos _ (items_left (items_past content (Items n, last)) (codes "END" ∷ codes "LIST" ∷ (listing_of content).kind ∷ (listing_of content).names) offset h)
 left_at content (Done, last) offset h = rw h refl
 
--- nothing rests after END alone
+-- nothing rests only after END
 pub rests_unless_done : (content : Content) (stage : Stage) (last : Option (List ℕ)) (offset : ℕ) → IsPosition content (stage, last) offset → eqb (length (rest (position content (stage, last) offset))) 0 ≡ is_last stage
 rests_unless_done content stage last offset h = ap (λ (text : List ℕ). eqb (length text) 0) (rest_at content (stage, last) offset h) ∙ left_at content (stage, last) offset h.within
 

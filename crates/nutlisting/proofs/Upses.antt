@@ -20,7 +20,7 @@ named_by held ups name desc is n d =
     let same : name ≡ ups.name = cc (ap (option_map (λ (u : Ups). u.name)) is) in
     cc (same, d, is)
 
--- the line of the UPS at a place, by what is told of it
+-- the line of the UPS at a place, by what is shown of it
 pub ups_first : (upses : List Ups) (place : ℕ) (name : List ℕ) (desc : Option (List ℕ)) (line : List ℕ) → place < length upses
     → Some name ≡ option_map (λ u. u.name) (slice_get upses place) → desc ≡ option_and_then (λ u. u.desc) (slice_get upses place)
     → line ≡ line_of (codes "UPS" ∷ name ∷ quoted (text_or_unavailable desc) ∷ []) → IsWholeLine line

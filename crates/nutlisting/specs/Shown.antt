@@ -4,8 +4,8 @@ use Rattle.std.specs.Str.{bytes_eq}
 use Rattle.nutdriver.specs.Variable.{VariableState}
 use Rattle.nutusers.specs.UpsList.{Ups}
 
--- The value as clients see it: `FSD` stands before the status of a UPS for which a forced shutdown
--- is set.
+-- The value as clients see it: `FSD` precedes the status of a UPS for which a forced shutdown is
+-- set.
 abbrev pub shown : Bool → List ℕ → VariableState → List ℕ
 shown fsd name variable =
     if fsd && bytes_eq name (codes "ups.status") then codes "FSD " ++ variable.value

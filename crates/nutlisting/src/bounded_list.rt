@@ -5,7 +5,8 @@ ghost use Rattle.nutlisting.specs.Bounded.{with_one};
 use std::alloc::{AllocError, Global};
 use std::marker::Model;
 
-/// A list of at most `LIMIT` items. There is room for all of them once it is made. Contracts see the items.
+/// A list of at most `LIMIT` items. There is room for all of them once it is made. Contracts see
+/// the items.
 #[derive(Drop)]
 pub struct BoundedList<T, const LIMIT: usize> {
     held: Vec<T>,

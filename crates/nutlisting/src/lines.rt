@@ -31,7 +31,8 @@ pub const KIND_LIMIT: usize = 9;
 /// The most bytes of a line's kind and the name of a UPS, with a blank.
 const UPS_FRONT_LIMIT: usize = KIND_LIMIT + 1 + UPS_NAME_LIMIT;
 
-/// The most bytes of a line before its values: its kind, the names of a UPS and a variable, two blanks.
+/// The most bytes of a line before its values: its kind, the names of a UPS and a variable, two
+/// blanks.
 pub(crate) const FRONT_LIMIT: usize = UPS_FRONT_LIMIT + 1 + NAME_LIMIT;
 
 /// The most bytes of a value as clients see it: a whole value after `FSD `.
@@ -59,14 +60,15 @@ pub fn variable_line_into(
     }
 }
 
-/// Makes the line of a status while a forced shutdown is set. The room for the text that is shown is cleared where the
-/// function begins: so it is a call of its own.
+/// Makes the line of a status while a forced shutdown is set. The room for the text that is shown
+/// is cleared where the function begins: so it is a call of its own.
 #[inline(never)]
 fn marked_line_into(kind: &[u8], ups: &UpsName, name: &Name, variable: &Variable, line: &mut Line)
     requires kind { length kind.now ≤ KIND_LIMIT }
     requires lawful { IsTrue (list_all is_lawful kind.now) }
     ensures text { line.new.items
-        ≡ line_of (kind.now ∷ ups.now ∷ name.now ∷ quoted (codes "FSD " ++ variable.now.value) ∷ []) }
+        ≡ line_of (kind.now ∷ ups.now ∷ name.now
+        ∷ quoted (codes "FSD " ++ variable.now.value) ∷ []) }
     ensures whole { IsWholeLine line.new.items }
 {
     let mut shown: ArrayVec<u8, SHOWN_LIMIT> = ArrayVec::new();

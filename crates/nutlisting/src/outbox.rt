@@ -25,8 +25,9 @@ pub const OWED_LIMIT: usize = 4096;
 
 /// What a session owes its client: a queue of bytes, and one cursor for what doesn't fit in it yet.
 ///
-/// Only `new` asks for memory. Contracts see the queue and the cursor; what is owed is the bytes of the queue, followed
-/// by the rest of the cursor, and the queue is full while that rest isn't empty.
+/// Only `new` asks for memory. Contracts see the queue and the cursor; what is owed is the bytes of
+/// the queue, followed by the rest of the cursor, and the queue is full while that rest isn't
+/// empty.
 #[derive(Drop)]
 pub struct Outbox {
     queue: ByteQueue<QUEUE_LIMIT>,
@@ -74,7 +75,8 @@ impl Outbox {
         self.queue.len()
     }
 
-    /// What is offered to the client now: the first 8,192 bytes that are owed, or all. Nothing changes.
+    /// What is offered to the client now: the first 8,192 bytes that are owed, or all. Nothing
+    /// changes.
     pub fn offer(&mut self) -> &[u8]
         ensures value { result.now ≡ take QUEUE_LIMIT (owed self.old) }
         ensures queue { result.now ≡ self.old.queue }
@@ -121,7 +123,8 @@ impl Outbox {
         drain(&mut self.cursor, queue, clients, line, renders);
     }
 
-    /// Joins the listing of these clients of a UPS. In their place it leaves room for as many. It takes no memory.
+    /// Joins the listing of these clients of a UPS. In their place it leaves room for as many. It
+    /// takes no memory.
     pub fn accept_clients(
         &mut self,
         ups: &UpsName,
@@ -173,8 +176,8 @@ fn clients_cursor(ups: &UpsName, clients: &mut Clients, place: Clients) -> Curso
     Cursor::start(Listing::of_clients(ups, mem::replace(clients, place)))
 }
 
-/// Fills the queue from the cursor, if there is one. Once nothing rests, the cursor goes and gives back its
-/// place for clients.
+/// Fills the queue from the cursor, if there is one. Once nothing rests, the cursor goes and gives
+/// back its place for clients.
 fn drain(
     cursor: &mut Option<Cursor>,
     queue: &mut ByteQueue<QUEUE_LIMIT>,

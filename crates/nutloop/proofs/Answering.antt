@@ -35,15 +35,15 @@ pub after_look : {R F : Type 0} (s : ServerState) (looked new : MioSockets R F) 
     → looked.pass ≡ fresh → new ≡ record looked { pass = new.pass; here = new.here }
     → GivesTurn s looked looked.pass answer new.pass → ready ≡ unwrap_or answer Nothing
     → AnswersLook s ready new
-after_look {R} {F} s looked new (Some turn) ready is same gives told =
+after_look {R} {F} s looked new (Some turn) ready is same gives reported =
     let at_fresh : GivesTurn s looked fresh (Some turn) new.pass =
     subst (λ (p : Pass). GivesTurn s looked p (Some turn) new.pass) is gives in
     let now : GivesTurn s new fresh (Some turn) new.pass =
     subst (λ (m : MioSockets R F). GivesTurn s m fresh (Some turn) new.pass) (sym same) at_fresh in
-    inr (inl (now.0, told ∙ now.1, now.2))
-after_look {R} {F} s looked new None ready is same gives told =
+    inr (inl (now.0, reported ∙ now.1, now.2))
+after_look {R} {F} s looked new None ready is same gives reported =
     let at_fresh : GivesTurn s looked fresh None new.pass =
     subst (λ (p : Pass). GivesTurn s looked p None new.pass) is gives in
     let now : GivesTurn s new fresh None new.pass =
     subst (λ (m : MioSockets R F). GivesTurn s m fresh None new.pass) (sym same) at_fresh in
-    inr (inr (told, now))
+    inr (inr (reported, now))

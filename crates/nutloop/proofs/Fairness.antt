@@ -12,9 +12,9 @@ unvisited : (pass : Pass) (s : Stop) → WasVisited (again pass) s → ⊥
 unvisited pass s h = omega arith
 
 abbrev Had : Stop → Turn → Type 0
-Had s t = (t.told ≡ s) ⊎ (t.may s ≡ false)
+Had s t = (t.visited ≡ s) ⊎ (t.may s ≡ false)
 
-of_turn : (t : Turn) (old : Pass) (s : Stop) → HasTurn t.may old t.told t.pass → WasVisited t.pass s → WasVisited old s ⊎ Had s t
+of_turn : (t : Turn) (old : Pass) (s : Stop) → HasTurn t.may old t.visited t.pass → WasVisited t.pass s → WasVisited old s ⊎ Had s t
 of_turn t old s turn now =
     elim (turn.others s now) [
       | inl before ↦ inl before
@@ -22,7 +22,7 @@ of_turn t old s turn now =
       | inr (inr unready) ↦ inr (inr unready)
     ]
 
-of_next : (t : Turn) (old : Pass) (s : Stop) → HasNext t.may old t.told t.pass → WasVisited t.pass s → WasVisited old s ⊎ Had s t
+of_next : (t : Turn) (old : Pass) (s : Stop) → HasNext t.may old t.visited t.pass → WasVisited t.pass s → WasVisited old s ⊎ Had s t
 of_next t old s (inl turn) now = of_turn t old s turn now
 of_next t old s (inr (mid, over, on, turn)) now =
     elim (of_turn t (again mid) s turn now) [ inl before ↦ absurd (unvisited mid s before) | inr had ↦ inr had ]
@@ -63,17 +63,17 @@ of_going b c n m h = grind arith
 counted_again : (pass : Pass) → goes_on pass ≡ true → Counted (again pass)
 counted_again pass on = record { within = omega arith; few = omega (arith, of_going pass.had_turn pass.was_driver_read pass.turns TURNS_PER_LOOK on) }
 
-counted_turn : (may : Stop → Bool) (old new : Pass) (told : Stop) → Counted old → HasTurn may old told new
+counted_turn : (may : Stop → Bool) (old new : Pass) (visited : Stop) → Counted old → HasTurn may old visited new
     → (new.turns ≡ old.turns + 1) × Counted new
-counted_turn may old new told is turn =
+counted_turn may old new visited is turn =
     let turns : new.turns ≡ old.turns + 1 = omega (arith, turn.turns, is.few, is.within) in
     (turns, record { within = turn.within; few = omega (arith, turns, turn.more, is.few) })
 
-counted_next : (t : Turn) (old : Pass) → Counted old → HasNext t.may old t.told t.pass
+counted_next : (t : Turn) (old : Pass) → Counted old → HasNext t.may old t.visited t.pass
     → (t.pass.turns ≡ old.turns + 1) × Counted t.pass
-counted_next t old is (inl turn) = counted_turn t.may old t.pass t.told is turn
+counted_next t old is (inl turn) = counted_turn t.may old t.pass t.visited is turn
 counted_next t old is (inr (mid, over, on, turn)) =
-    let next = counted_turn t.may (again mid) t.pass t.told (counted_again mid on) turn in
+    let next = counted_turn t.may (again mid) t.pass t.visited (counted_again mid on) turn in
     (next.0 ∙ ap (λ (p : Pass). p.turns + 1) over.same, next.1)
 
 counted_all : (old : Pass) (ts : List Turn) (last : Pass) → Counted old → GoThrough old ts last

@@ -4,26 +4,26 @@ use Rattle.std.specs.Prelude.{Result, Ok, Err, replicate}
 use Rattle.nutcore.specs.Server.{ServerState}
 use Rattle.nutcore.specs.Cost.{RunningServer}
 use Rattle.nutloop.specs.declared.fault.LoopFault.{LoopFault}
-use Rattle.nutloop.specs.Sockets.{Told}
+use Rattle.nutloop.specs.Sockets.{Reported}
 use Rattle.nutloop.specs.Turn.{TurnGives}
 use Rattle.nutloop.specs.Moved.{Turns}
 use Rattle.nutloop.specs.Serving.{TurnsUpTo, ShownTurns, IsOneRun}
 use Rattle.nutloop.proofs.Turning.{any_turns_are_one_run}
 
 -- The same turn from a server and sockets that are the same.
-turn_from : {S : Type 0} (calls : S → Told) (failures : S → ℕ) (r : Result (Unit {0}) LoopFault) (old mid : ServerState) (sockets middle : S) (new : ServerState) (after : S) → mid ≡ old → middle ≡ sockets → TurnGives calls failures mid middle r new after → TurnGives calls failures old sockets r new after
+turn_from : {S : Type 0} (calls : S → Reported) (failures : S → ℕ) (r : Result (Unit {0}) LoopFault) (old mid : ServerState) (sockets middle : S) (new : ServerState) (after : S) → mid ≡ old → middle ≡ sockets → TurnGives calls failures mid middle r new after → TurnGives calls failures old sockets r new after
 turn_from calls failures r old mid sockets middle new after server same t = subst (λ s. TurnGives calls failures s sockets r new after) server (subst (λ k. TurnGives calls failures mid k r new after) same t)
 
-pub turns_then : {S : Type 0} (calls : S → Told) (failures : S → ℕ) (rs : List (Result (Unit {0}) LoopFault)) (r : Result (Unit {0}) LoopFault) (old : ServerState) (sockets : S) (mid : ServerState) (middle : S) (new : ServerState) (after : S)
+pub turns_then : {S : Type 0} (calls : S → Reported) (failures : S → ℕ) (rs : List (Result (Unit {0}) LoopFault)) (r : Result (Unit {0}) LoopFault) (old : ServerState) (sockets : S) (mid : ServerState) (middle : S) (new : ServerState) (after : S)
     → Turns calls failures old sockets rs mid middle → TurnGives calls failures mid middle r new after → Turns calls failures old sockets (rs ++ r ∷ []) new after
 turns_then calls failures [] r old sockets mid middle new after t u = (new, (after, turn_from calls failures r old mid sockets middle new after t.0 t.1 u, (refl, refl)))
 turns_then calls failures (q ∷ rs) r old sockets mid middle new after t u = (t.0, (t.1.0, t.1.1, turns_then calls failures rs r t.0 t.1.0 mid middle new after t.1.2 u))
 
-pub is_one_run : {S : Type 0} (calls : S → Told) (failures : S → ℕ) (r : Result (Unit {0}) LoopFault) (old : ServerState) (sockets : S) (new : ServerState) (after : S) → TurnsUpTo calls failures old sockets r new after → IsOneRun old new
+pub is_one_run : {S : Type 0} (calls : S → Reported) (failures : S → ℕ) (r : Result (Unit {0}) LoopFault) (old : ServerState) (sockets : S) (new : ServerState) (after : S) → TurnsUpTo calls failures old sockets r new after → IsOneRun old new
 is_one_run calls failures (Ok u) old sockets new after t = any_turns_are_one_run calls failures old new sockets after (replicate t.0 (Ok tt)) t.2
 is_one_run calls failures (Err fault) old sockets new after t = any_turns_are_one_run calls failures old new sockets after (replicate t.0 (Ok tt) ++ Err fault ∷ []) t.1
 
-module _ {S W : Type 0} (calls : S → Told) (failures : S → ℕ) (shows : W → RunningServer → S → W → Type 0) where
+module _ {S W : Type 0} (calls : S → Reported) (failures : S → ℕ) (shows : W → RunningServer → S → W → Type 0) where
   next_shown : (n : ℕ) (old : ServerState) (sockets : S) (watcher : W) (mid : ServerState) (middle : S) (next : W) (new : RunningServer) (after : S) (last : W)
       → ShownTurns calls failures shows n old sockets watcher mid middle next → TurnGives calls failures mid middle (Ok tt) new.state after → shows next new after last
       → ShownTurns calls failures shows (suc n) old sockets watcher new.state after last

@@ -1,4 +1,4 @@
--- What the calls that are told and the events of a turn have in common: a reading of the calls, g, and one of the events, f, that fit.
+-- What the calls that are reported and the events of a turn have in common: a reading of the calls, g, and one of the events, f, that fit.
 use Rattle.std.proofs.Common.{◌≡◌, ℕ, Bool, true, false, List, [], ◌∷◌, ◌++◌, length, Option, Some, None, refl, sym, ap, subst, ◌∙◌, append-nil}
 use Rattle.std.specs.Prelude.{◌≤◌, ◌==◌, if◌then◌else◌, is_some, IsTrue}
 use Rattle.nutwords.specs.Reading.{is_address}

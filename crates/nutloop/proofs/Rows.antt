@@ -27,7 +27,7 @@ use Rattle.nutloop.specs.declared.sockets.Ready.TheVariants.{Read}
 use Rattle.nutloop.specs.declared.sockets.Call.{Call}
 use Rattle.nutloop.specs.declared.sockets.Call.TheVariants.{Readied, Happens}
 use Rattle.nutloop.specs.declared.turns.TheConstants.{DRIVER_READ_LIMIT}
-use Rattle.nutloop.specs.Sockets.{Told, event_in, events_in, GrowsBy, Grows, Logs}
+use Rattle.nutloop.specs.Sockets.{Reported, event_in, events_in, GrowsBy, Grows, ReportsCall}
 use Rattle.nutcore.specs.DriverOrders.{owed_to_driver}
 use Rattle.nutloop.specs.Turn.{Ask, nobody, reads, writes, Answer, unasked, ask, read_of, write_of, MayAnswer, answered, row_events, end_of, calls_behind, calls_behind_all, Does, failures_by, IsRow}
 
@@ -44,96 +44,96 @@ calls_join (Some xs) None (Some zs) x y h k = absurd k
 calls_join (Some xs) (Some ys) None x y h k = tt
 calls_join (Some xs) (Some ys) (Some zs) x y h k = k ∙ ap (λ t. t ++ y) h ∙ append_assoc xs x y
 
-pub grows_nothing : (a : Told) → Grows a a []
+pub grows_nothing : (a : Reported) → Grows a a []
 grows_nothing a = (calls_nothing a.answered, λ events recorded. subst a.records (sym (append-nil events)) recorded)
 
-pub grows_joins : (a b c : Told) (x y : List Call) → Grows a b x → Grows b c y → Grows a c (x ++ y)
+pub grows_joins : (a b c : Reported) (x y : List Call) → Grows a b x → Grows b c y → Grows a c (x ++ y)
 grows_joins a b c x y h k = (
   calls_join a.answered b.answered c.answered x y h.0 k.0,
   λ events recorded. subst c.records (append_assoc events (events_in x) (events_in y) ∙ ap (λ more. events ++ more) (sym (flat_map-append event_in x y)))
       (k.1 (events ++ events_in x) (h.1 events recorded)),
 )
 
--- A call after one of which nothing is told.
-pub logs_behind : {T E : Type 0} (a b c : Told) (call : T → Call) (result : Result T E) → Grows a b [] → Logs b c call result → Logs a c call result
+-- A call after one of which nothing is reported.
+pub logs_behind : {T E : Type 0} (a b c : Reported) (call : T → Call) (result : Result T E) → Grows a b [] → ReportsCall b c call result → ReportsCall a c call result
 logs_behind a b c call (Ok x) h k = grows_joins a b c [] (call x ∷ []) h k
 logs_behind a b c call (Err e) h k = grows_joins a b c [] [] h k
 
--- One event is told and done, and then the call after it is made.
-pub does_one : {S : Type 0} (calls : S → Told) (failures : S → ℕ) (e : Event) (o : Outcome) (old : ServerState) (sockets middle : S) (new : ServerState) (after : S)
+-- One event is reported and done, and then the call after it is made.
+pub does_one : {S : Type 0} (calls : S → Reported) (failures : S → ℕ) (e : Event) (o : Outcome) (old : ServerState) (sockets middle : S) (new : ServerState) (after : S)
     → Grows (calls sockets) (calls middle) (Happens e ∷ []) → failures middle ≡ failures sockets
     → Step old e o new → Grows (calls middle) (calls after) (calls_behind e o) → failures after ≡ failures middle
     → Does calls failures (e ∷ []) old sockets new after
-does_one calls failures e o old sockets middle new after happens no_failure step told count = record {
+does_one calls failures e o old sockets middle new after happens no_failure step reported count = record {
   outcomes = o ∷ [];
   run = (new, step, refl);
-  told = subst (λ cs. Grows (calls sockets) (calls after) (Happens e ∷ cs)) (sym (append-nil (calls_behind e o)))
-      (grows_joins (calls sockets) (calls middle) (calls after) (Happens e ∷ []) (calls_behind e o) happens told);
+  reported = subst (λ cs. Grows (calls sockets) (calls after) (Happens e ∷ cs)) (sym (append-nil (calls_behind e o)))
+      (grows_joins (calls sockets) (calls middle) (calls after) (Happens e ∷ []) (calls_behind e o) happens reported);
   count = count ∙ no_failure;
 }
 
--- One event is told and done, after which no call is made.
-pub does_quietly : {S : Type 0} (calls : S → Told) (failures : S → ℕ) (e : Event) (o : Outcome) (old : ServerState) (sockets : S) (new : ServerState) (after : S)
+-- One event is reported and done, after which no call is made.
+pub does_quietly : {S : Type 0} (calls : S → Reported) (failures : S → ℕ) (e : Event) (o : Outcome) (old : ServerState) (sockets : S) (new : ServerState) (after : S)
     → Grows (calls sockets) (calls after) (Happens e ∷ []) → failures after ≡ failures sockets
     → calls_behind e o ≡ [] → Step old e o new
     → Does calls failures (e ∷ []) old sockets new after
 does_quietly calls failures e o old sockets new after happens no_failure quiet step =
     does_one calls failures e o old sockets after new after happens no_failure step (subst (λ cs. Grows (calls after) (calls after) cs) (sym quiet) (grows_nothing (calls after))) refl
 
-pub does_nothing : {S : Type 0} (calls : S → Told) (failures : S → ℕ) (old : ServerState) (sockets : S) (new : ServerState)
+pub does_nothing : {S : Type 0} (calls : S → Reported) (failures : S → ℕ) (old : ServerState) (sockets : S) (new : ServerState)
     → new ≡ old → Does calls failures [] old sockets new sockets
-does_nothing calls failures old sockets new same = record { outcomes = []; run = same; told = grows_nothing (calls sockets); count = refl }
+does_nothing calls failures old sockets new same = record { outcomes = []; run = same; reported = grows_nothing (calls sockets); count = refl }
 
 -- The same from a server that is the same.
-pub does_from : {S : Type 0} (calls : S → Told) (failures : S → ℕ) (es : List Event) (old mid : ServerState) (sockets : S) (new : ServerState) (after : S)
+pub does_from : {S : Type 0} (calls : S → Reported) (failures : S → ℕ) (es : List Event) (old mid : ServerState) (sockets : S) (new : ServerState) (after : S)
     → mid ≡ old → Does calls failures es mid sockets new after → Does calls failures es old sockets new after
 does_from calls failures es old mid sockets new after same rest = subst (λ s. Does calls failures es s sockets new after) same rest
 
 -- A row: the call that it makes, and its events.
-pub row : {S : Type 0} (calls : S → Told) (failures : S → ℕ) (ready : Ready) (answer : Answer) (a : Ask) (es : List Event) (old : ServerState) (sockets middle : S) (new : ServerState) (after : S)
+pub row : {S : Type 0} (calls : S → Reported) (failures : S → ℕ) (ready : Ready) (answer : Answer) (a : Ask) (es : List Event) (old : ServerState) (sockets middle : S) (new : ServerState) (after : S)
     → ask old ready ≡ a → row_events old ready answer ≡ es
     → MayAnswer a answer → Grows (calls sockets) (calls middle) (answered a answer) → failures middle ≡ failures_by answer (failures sockets)
     → Does calls failures es old middle new after
     → IsRow calls failures [] ready old sockets new after
-row calls failures ready answer a es old sockets middle new after asked rows may told count does = record {
+row calls failures ready answer a es old sockets middle new after asked rows may reported count does = record {
   answer = answer;
   outcomes = does.outcomes;
   may = subst (λ x. MayAnswer x answer) (sym asked) may;
   run = subst (λ x. Run old x does.outcomes new) (sym rows) does.run;
-  told = subst (λ x. Grows (calls sockets) (calls after) (answered x answer ++ calls_behind_all (row_events old ready answer) does.outcomes)) (sym asked)
+  reported = subst (λ x. Grows (calls sockets) (calls after) (answered x answer ++ calls_behind_all (row_events old ready answer) does.outcomes)) (sym asked)
       (subst (λ x. Grows (calls sockets) (calls after) (answered a answer ++ calls_behind_all x does.outcomes)) (sym rows)
-      (grows_joins (calls sockets) (calls middle) (calls after) (answered a answer) (calls_behind_all es does.outcomes) told does.told));
+      (grows_joins (calls sockets) (calls middle) (calls after) (answered a answer) (calls_behind_all es does.outcomes) reported does.reported));
   count = does.count ∙ count;
 }
 
 -- A row after the answer of ready.
-pub row_behind : {S : Type 0} (calls : S → Told) (failures : S → ℕ) (ready : Ready) (old : ServerState) (sockets middle : S) (new : ServerState) (after : S)
+pub row_behind : {S : Type 0} (calls : S → Reported) (failures : S → ℕ) (ready : Ready) (old : ServerState) (sockets middle : S) (new : ServerState) (after : S)
     → Grows (calls sockets) (calls middle) (Readied ready ∷ []) → failures middle ≡ failures sockets → IsRow calls failures [] ready old middle new after
     → IsRow calls failures (Readied ready ∷ []) ready old sockets new after
-row_behind calls failures ready old sockets middle new after told count r = record {
+row_behind calls failures ready old sockets middle new after reported count r = record {
   answer = r.answer;
   outcomes = r.outcomes;
   may = r.may;
   run = r.run;
-  told = grows_joins (calls sockets) (calls middle) (calls after) (Readied ready ∷ []) (answered (ask old ready) r.answer ++ calls_behind_all (row_events old ready r.answer) r.outcomes) told r.told;
+  reported = grows_joins (calls sockets) (calls middle) (calls after) (Readied ready ∷ []) (answered (ask old ready) r.answer ++ calls_behind_all (row_events old ready r.answer) r.outcomes) reported r.reported;
   count = r.count ∙ ap (failures_by r.answer) count;
 }
 
 -- The row of a peer that is this one, after the answer of ready.
-pub row_of_peer : {S : Type 0} (calls : S → Told) (failures : S → ℕ) (turn : Peer → Ready) (p q : Peer) (old : ServerState) (sockets middle : S) (new : ServerState) (after : S)
+pub row_of_peer : {S : Type 0} (calls : S → Reported) (failures : S → ℕ) (turn : Peer → Ready) (p q : Peer) (old : ServerState) (sockets middle : S) (new : ServerState) (after : S)
     → p ≡ q → Grows (calls sockets) (calls middle) (Readied (turn p) ∷ []) → failures middle ≡ failures sockets → IsRow calls failures [] (turn q) old middle new after
     → (ready : Ready) × IsRow calls failures (Readied ready ∷ []) ready old sockets new after
-row_of_peer calls failures turn p q old sockets middle new after is told count r =
-    (turn q, row_behind calls failures (turn q) old sockets middle new after (subst (λ (this : Peer). Grows (calls sockets) (calls middle) (Readied (turn this) ∷ [])) is told) count r)
+row_of_peer calls failures turn p q old sockets middle new after is reported count r =
+    (turn q, row_behind calls failures (turn q) old sockets middle new after (subst (λ (this : Peer). Grows (calls sockets) (calls middle) (Readied (turn this) ∷ [])) is reported) count r)
 
 -- A row of one event, which asks nothing of the sockets, after the answer of ready.
-pub row_of_event : {S : Type 0} (calls : S → Told) (failures : S → ℕ) (ready : Ready) (e : Event) (o : Outcome) (old : ServerState) (sockets middle : S) (new : ServerState) (after : S)
+pub row_of_event : {S : Type 0} (calls : S → Reported) (failures : S → ℕ) (ready : Ready) (e : Event) (o : Outcome) (old : ServerState) (sockets middle : S) (new : ServerState) (after : S)
     → ask old ready ≡ nobody → row_events old ready unasked ≡ e ∷ []
     → Grows (calls sockets) (calls middle) (Readied ready ∷ []) → failures middle ≡ failures sockets
     → Grows (calls middle) (calls after) (Happens e ∷ []) → failures after ≡ failures middle → calls_behind e o ≡ [] → Step old e o new
     → IsRow calls failures (Readied ready ∷ []) ready old sockets new after
-row_of_event calls failures ready e o old sockets middle new after asked rows told count happens no_failure quiet step =
-    row_behind calls failures ready old sockets middle new after told count
+row_of_event calls failures ready e o old sockets middle new after asked rows reported count happens no_failure quiet step =
+    row_behind calls failures ready old sockets middle new after reported count
     (row calls failures ready unasked nobody (e ∷ []) old middle middle new after asked rows tt (grows_nothing (calls middle)) refl
     (does_quietly calls failures e o old middle new after happens no_failure quiet step))
 

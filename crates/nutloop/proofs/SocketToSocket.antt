@@ -20,18 +20,18 @@ use Rattle.nutcore.specs.History.{asked_in_event, taken_in_event, asked, answers
 use Rattle.nutcore.specs.Headline.{IsBeginning, SentAndOwed, TakenUp, WhatWasSentAndIsOwedIsTheAnswers, WhatWasAskedIsExecutedOrHeld, EachAnswerIsTimely}
 use Rattle.nutcore.specs.Lasting.{IsEnding, WhatNeverGoesBack}
 use Rattle.nutcore.specs.Sound.{IsSound, ANewServerIsSound, EachEventKeepsTheServerSound, ASoundServerIsLawful}
-use Rattle.nutcore.specs.DriverHistory.{WhatADriverToldIsExecuted, StaysConnected, DriverIsHeard, has_driver, heard, came_in_event}
+use Rattle.nutcore.specs.DriverHistory.{WhatADriverReportedIsExecuted, StaysConnected, DriverIsHeard, has_driver, heard, came_in_event}
 use Rattle.nutcore.specs.DriverRuns.{IsNewServer}
 use Rattle.nutcore.specs.DriverOrders.{owed_to_driver, connections}
 use Rattle.nutcore.specs.DriverOrders as driver
-use Rattle.nutcore.specs.OrdersByRight.{all_told}
+use Rattle.nutcore.specs.OrdersByRight.{all_given}
 use Rattle.nutloop.specs.declared.sockets.Call.{Call}
-use Rattle.nutloop.specs.Sockets.{Told}
+use Rattle.nutloop.specs.Sockets.{Reported}
 use Rattle.nutloop.specs.Turn.{room_at}
 use Rattle.nutloop.specs.Moved.{is_client, is_driver, gave_in, took_in, bytes_given, bytes_taken, along}
-use Rattle.nutloop.specs.SocketToSocket.{IsAnswered, AreAnswered, WhatASocketGaveIsAnswered, DriversAreHeardAndTold, ADriverIsHeardAndToldByItsSocket}
+use Rattle.nutloop.specs.SocketToSocket.{IsAnswered, AreAnswered, WhatASocketGaveIsAnswered, DriversAreServedByTheirSockets, ADriverIsServedByItsSocket}
 use Rattle.nutloop.proofs.Moving.{Fit}
-use Rattle.nutloop.proofs.Turning.{Moves, turns_are_moved, none, taken_fits, taken_is_along, came_fits, came_is_along, told_since}
+use Rattle.nutloop.proofs.Turning.{Moves, turns_are_moved, none, taken_fits, taken_is_along, came_fits, came_is_along, reported_since}
 
 -- What was fed to the client, as far as there was room for it: all of what its socket gave, since no more is read.
 abbrev with_room : ℕ → ServerState → Event → List ℕ
@@ -153,18 +153,18 @@ is_answered c since old new es os none nothing gave took a sent up = record {
   took_once_closed = λ h. subst (λ v. IsBeginning v (answers c old es os)) (sym took) (subst (λ v. IsBeginning (taken c old es os) (v ++ answers c old es os)) nothing (sent.once_closed h));
 }
 
-pub what_a_socket_gave_is_answered : {S : Type 0} (calls : S → Told) (failures : S → ℕ)
+pub what_a_socket_gave_is_answered : {S : Type 0} (calls : S → Reported) (failures : S → ℕ)
     → WhatWasSentAndIsOwedIsTheAnswers → WhatWasAskedIsExecutedOrHeld → EachAnswerIsTimely → WhatNeverGoesBack
     → ANewServerIsSound → EachEventKeepsTheServerSound → ASoundServerIsLawful → WhatASocketGaveIsAnswered calls failures
-what_a_socket_gave_is_answered {S} calls failures sent up timely never opening sound lawful = λ old new sockets after results before now is_new turns told told_after.
-    from old new sockets after before now is_new (turns_are_moved calls failures results old sockets new after turns) told told_after
+what_a_socket_gave_is_answered {S} calls failures sent up timely never opening sound lawful = λ old new sockets after results before now is_new turns reported reported_after.
+    from old new sockets after before now is_new (turns_are_moved calls failures results old sockets new after turns) reported reported_after
   where
     from : (old new : ServerState) (sockets after : S) (before now : List Call) → IsNewServer old → Moves calls old sockets new after → (calls sockets).answered ≡ Some before → (calls after).answered ≡ Some now
         → (since : List Call) × (now ≡ before ++ since) × AreAnswered since old new
-    from old new sockets after before now n m told told_after =
+    from old new sockets after before now n m reported reported_after =
         let s : IsSound old = subst IsSound (sym n.is) (opening n.list n.users n.descriptions n.max_age n.is_list n.are_lawful n.is_max_age) in (
           m.since,
-          told_since (calls sockets).answered (calls after).answered before now m.since m.grown.0 told told_after,
+          reported_since (calls sockets).answered (calls after).answered before now m.since m.grown.0 reported reported_after,
           record {
             events = m.events;
             outcomes = m.outcomes;
@@ -223,20 +223,20 @@ is_there u s (e ∷ es) [] h = h
 is_there u s (e ∷ es) (o ∷ os) h = h.0
 
 record IsOne (u : UpsId) (s : ServerState) (es : List Event) (os : List Outcome) : Type 0 where
-  pub told : List driver.Telling
-  pub is : connections u s es os ≡ driver.last (record { told = told; taken = along (took_of u) s es os })
+  pub given : List driver.ServerLine
+  pub is : connections u s es os ≡ driver.last (record { given = given; taken = along (took_of u) s es os })
 
 is_one : (u : UpsId) (s : ServerState) (es : List Event) (os : List Outcome) → StaysConnected u s es os → IsOne u s es os
-is_one u s [] os h = record { told = []; is = refl }
-is_one u s (e ∷ es) [] h = record { told = []; is = refl }
+is_one u s [] os h = record { given = []; is = refl }
+is_one u s (e ∷ es) [] h = record { given = []; is = refl }
 is_one u s (e ∷ es) (o ∷ os) h =
     let rest = is_one u (after s e o) es os h.1 in
     let stays : driver.is_lost_by u s e o ≡ false = ap (λ b. has_driver u s && not b) (is_there u (after s e o) es os h.1) ∙ and-false (has_driver u s) in
     record {
-      told = driver.told_in_event u s e o ++ rest.told;
-      is = ap (λ b. driver.in_front b (driver.told_in_event u s e o) (driver.taken_in_event u s e) (connections u (after s e o) es os)) stays
-          ∙ ap (λ v. driver.with_front (driver.told_in_event u s e o) (driver.taken_in_event u s e) v) rest.is
-          ∙ ap (λ v. driver.last (record { told = driver.told_in_event u s e o ++ rest.told; taken = v ++ along (took_of u) (after s e o) es os })) (took_is u s e h.0);
+      given = driver.given_in_event u s e o ++ rest.given;
+      is = ap (λ b. driver.in_front b (driver.given_in_event u s e o) (driver.taken_in_event u s e) (connections u (after s e o) es os)) stays
+          ∙ ap (λ v. driver.with_front (driver.given_in_event u s e o) (driver.taken_in_event u s e) v) rest.is
+          ∙ ap (λ v. driver.last (record { given = driver.given_in_event u s e o ++ rest.given; taken = v ++ along (took_of u) (after s e o) es os })) (took_is u s e h.0);
     }
 
 there_is : (u : UpsId) (s : ServerState) → has_driver u s ≡ true → u.place < length s.upses
@@ -246,24 +246,24 @@ there_is u s h = by_ups (ups_at u.place s) refl h
     by_ups None e k = cc k
     by_ups (Some x) e k = slice_get_within s.upses u.place x e
 
-is_told : (u : UpsId) (since : List Call) (old new : ServerState) (es : List Event) (os : List Outcome) → bytes_taken (is_driver u) since ≡ along (took_of u) old es os → StaysConnected u old es os
+is_given : (u : UpsId) (since : List Call) (old new : ServerState) (es : List Event) (os : List Outcome) → bytes_taken (is_driver u) since ≡ along (took_of u) old es os → StaysConnected u old es os
     → driver.IsSentAndOwed (owed_to_driver u old) (connections u old es os) (owed_to_driver u new)
-    → owed_to_driver u old ++ driver.texts_of (all_told (connections u old es os)) ≡ bytes_taken (is_driver u) since ++ owed_to_driver u new
-is_told u since old new es os took stays sent =
+    → owed_to_driver u old ++ driver.texts_of (all_given (connections u old es os)) ≡ bytes_taken (is_driver u) since ++ owed_to_driver u new
+is_given u since old new es os took stays sent =
     let one = is_one u old es os stays in
-    ap (λ v. owed_to_driver u old ++ driver.texts_of (all_told v)) one.is
+    ap (λ v. owed_to_driver u old ++ driver.texts_of (all_given v)) one.is
     ∙ subst (λ v. driver.IsSentAndOwed (owed_to_driver u old) v (owed_to_driver u new)) one.is sent
     ∙ ap (λ v. v ++ owed_to_driver u new) (sym took)
 
-pub a_driver_is_heard_and_told_by_its_socket : {S : Type 0} (calls : S → Told) (failures : S → ℕ) → WhatADriverToldIsExecuted → driver.WhatADriverWasSentAndIsOwedIsWhatItWasTold → ADriverIsHeardAndToldByItsSocket calls failures
-a_driver_is_heard_and_told_by_its_socket {S} calls failures executed_all sent_all = λ old new sockets after results before now sound turns told told_after.
-    from old new sockets after before now sound (turns_are_moved calls failures results old sockets new after turns) told told_after
+pub a_driver_is_served_by_its_socket : {S : Type 0} (calls : S → Reported) (failures : S → ℕ) → WhatADriverReportedIsExecuted → driver.WhatADriverWasSentAndIsOwedIsWhatItWasGiven → ADriverIsServedByItsSocket calls failures
+a_driver_is_served_by_its_socket {S} calls failures executed_all sent_all = λ old new sockets after results before now sound turns reported reported_after.
+    from old new sockets after before now sound (turns_are_moved calls failures results old sockets new after turns) reported reported_after
   where
     from : (old new : ServerState) (sockets after : S) (before now : List Call) → IsSound old → Moves calls old sockets new after → (calls sockets).answered ≡ Some before → (calls after).answered ≡ Some now
-        → (since : List Call) × (now ≡ before ++ since) × DriversAreHeardAndTold since old new
-    from old new sockets after before now sound m told told_after = (
+        → (since : List Call) × (now ≡ before ++ since) × DriversAreServedByTheirSockets since old new
+    from old new sockets after before now sound m reported reported_after = (
       m.since,
-      told_since (calls sockets).answered (calls after).answered before now m.since m.grown.0 told told_after,
+      reported_since (calls sockets).answered (calls after).answered before now m.since m.grown.0 reported reported_after,
       record {
         events = m.events;
         outcomes = m.outcomes;
@@ -272,7 +272,7 @@ a_driver_is_heard_and_told_by_its_socket {S} calls failures executed_all sent_al
           gave = subst (λ v. DriverIsHeard u old v (heard u old m.events m.outcomes) new)
               (sym (m.moves (gave_in (is_driver u)) (λ s e. came_in_event u e) (came_fits u) ∙ came_is_along u old new m.events m.outcomes m.run))
               (executed_all old new m.events m.outcomes u m.run stays);
-          took = is_told u m.since old new m.events m.outcomes (m.moves (took_in (is_driver u)) (took_of u) (took_fits u)) stays
+          took = is_given u m.since old new m.events m.outcomes (m.moves (took_in (is_driver u)) (took_of u) (took_fits u)) stays
               (sent_all old new m.events m.outcomes u sound (there_is u old (is_there u old m.events m.outcomes stays)) m.run);
         };
       },

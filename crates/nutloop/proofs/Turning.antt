@@ -29,7 +29,7 @@ use Rattle.nutloop.specs.declared.sockets.Ready.{Ready}
 use Rattle.nutloop.specs.declared.sockets.Ready.TheVariants.{Newcomer}
 use Rattle.nutloop.specs.declared.sockets.Call.{Call}
 use Rattle.nutloop.specs.declared.sockets.Call.TheVariants.{Readied, Shut}
-use Rattle.nutloop.specs.Sockets.{Told, event_in, events_in, GrowsBy, Grows}
+use Rattle.nutloop.specs.Sockets.{Reported, event_in, events_in, GrowsBy, Grows}
 use Rattle.nutloop.specs.Turn.{Ask, nobody, accepts, reads, writes, Answer, unasked, newcomer, gave, later, ended, took, failed, ask, answered, row_events, calls_behind, calls_behind_all, loses_driver, IsRow, TurnGives}
 use Rattle.nutloop.specs.Moved.{Turns, is_client, is_driver, gave_in, took_in, along, fed_in_event, driver_took_in_event, AreMoved, EveryByteIsMovedOnce}
 use Rattle.nutloop.proofs.Rows.{grows_nothing, grows_joins}
@@ -52,7 +52,7 @@ along_joins f s mid (e ∷ es) fs (o ∷ os) qs r =
     ap (λ v. f s e ++ v) (along_joins f (after s e o) mid es fs os qs rest) ∙ sym (append_assoc (f s e) (along f (after s e o) es os) (along f mid fs qs))
 
 -- What turns did, in the words of any reading of calls and events that fit.
-pub record Moves {S : Type 0} (calls : S → Told) (old : ServerState) (sockets : S) (new : ServerState) (after : S) : Type 0 where
+pub record Moves {S : Type 0} (calls : S → Reported) (old : ServerState) (sockets : S) (new : ServerState) (after : S) : Type 0 where
   pub since : List Call
   pub events : List Event
   pub outcomes : List Outcome
@@ -90,12 +90,12 @@ none_behind (event.Took c n) o = refl
 none_behind (event.Close c) o = refl
 none_behind (event.Id n) o = refl
 
-told_behind : (s new : ServerState) (es : List Event) (os : List Outcome) → Run s es os new → events_in (calls_behind_all es os) ≡ es
-told_behind s new [] os r = refl
-told_behind s new (e ∷ es) [] r = absurd r
-told_behind s new (e ∷ es) (o ∷ os) r =
+reported_behind : (s new : ServerState) (es : List Event) (os : List Outcome) → Run s es os new → events_in (calls_behind_all es os) ≡ es
+reported_behind s new [] os r = refl
+reported_behind s new (e ∷ es) [] r = absurd r
+reported_behind s new (e ∷ es) (o ∷ os) r =
     ap (λ v. e ∷ v) (flat_map-append event_in (calls_behind e o) (calls_behind_all es os)
-    ∙ ap (λ v. v ++ events_in (calls_behind_all es os)) (none_behind e o) ∙ told_behind r.0 new es os r.2)
+    ∙ ap (λ v. v ++ events_in (calls_behind_all es os)) (none_behind e o) ∙ reported_behind r.0 new es os r.2)
 
 row_tells : (r : Ready) (a b : List Call) (es : List Event) → events_in a ≡ [] → events_in b ≡ es → events_in ((Readied r ∷ a) ++ b) ≡ es
 row_tells r a b es ha hb = flat_map-append event_in (Readied r ∷ a) b ∙ ap (λ v. v ++ events_in b) ha ∙ hb
@@ -109,32 +109,32 @@ row_reads g f fit r a b bytes ha hb =
     ∙ append-nil (flat_map g a)
     ∙ ha
 
-row_is_moved : {S : Type 0} (calls : S → Told) (failures : S → ℕ) (ready : Ready) (old : ServerState) (sockets : S) (new : ServerState) (after : S) → IsRow calls failures (Readied ready ∷ []) ready old sockets new after → Moves calls old sockets new after
+row_is_moved : {S : Type 0} (calls : S → Reported) (failures : S → ℕ) (ready : Ready) (old : ServerState) (sockets : S) (new : ServerState) (after : S) → IsRow calls failures (Readied ready ∷ []) ready old sockets new after → Moves calls old sockets new after
 row_is_moved calls failures ready old sockets new after w =
     let es : List Event = row_events old ready w.answer in
     record {
       since = (Readied ready ∷ answered (ask old ready) w.answer) ++ calls_behind_all es w.outcomes;
       events = es;
       outcomes = w.outcomes;
-      grown = w.told;
+      grown = w.reported;
       run = w.run;
-      tells = row_tells ready (answered (ask old ready) w.answer) (calls_behind_all es w.outcomes) es (none_answered (ask old ready) w.answer) (told_behind old new es w.outcomes w.run);
+      tells = row_tells ready (answered (ask old ready) w.answer) (calls_behind_all es w.outcomes) es (none_answered (ask old ready) w.answer) (reported_behind old new es w.outcomes w.run);
       moves = λ g f fit. row_reads g f fit ready (answered (ask old ready) w.answer) (calls_behind_all es w.outcomes) (along f old es w.outcomes)
           (row_moves g f fit old new ready w.answer w.outcomes w.may w.run) (behind_all g f fit es w.outcomes);
     }
 
-nothing_is_moved : {S : Type 0} (calls : S → Told) (old : ServerState) (sockets : S) (new : ServerState) (after : S) → Grows (calls sockets) (calls after) [] → new ≡ old → Moves calls old sockets new after
-nothing_is_moved calls old sockets new after told same = record { since = []; events = []; outcomes = []; grown = told; run = same; tells = refl; moves = λ g f fit. refl }
+nothing_is_moved : {S : Type 0} (calls : S → Reported) (old : ServerState) (sockets : S) (new : ServerState) (after : S) → Grows (calls sockets) (calls after) [] → new ≡ old → Moves calls old sockets new after
+nothing_is_moved calls old sockets new after reported same = record { since = []; events = []; outcomes = []; grown = reported; run = same; tells = refl; moves = λ g f fit. refl }
 
-newcomer_is_moved : {S : Type 0} (calls : S → Told) (old : ServerState) (sockets : S) (new : ServerState) (after : S) → Grows (calls sockets) (calls after) (Readied Newcomer ∷ []) → new ≡ old → Moves calls old sockets new after
-newcomer_is_moved calls old sockets new after told same = record { since = Readied Newcomer ∷ []; events = []; outcomes = []; grown = told; run = same; tells = refl; moves = λ g f fit. append-nil (g (Readied Newcomer)) ∙ fit.readied Newcomer }
+newcomer_is_moved : {S : Type 0} (calls : S → Reported) (old : ServerState) (sockets : S) (new : ServerState) (after : S) → Grows (calls sockets) (calls after) (Readied Newcomer ∷ []) → new ≡ old → Moves calls old sockets new after
+newcomer_is_moved calls old sockets new after reported same = record { since = Readied Newcomer ∷ []; events = []; outcomes = []; grown = reported; run = same; tells = refl; moves = λ g f fit. append-nil (g (Readied Newcomer)) ∙ fit.readied Newcomer }
 
-turn_is_moved : {S : Type 0} (calls : S → Told) (failures : S → ℕ) (old : ServerState) (sockets : S) (r : Result (Unit {0}) LoopFault) (new : ServerState) (after : S) → TurnGives calls failures old sockets r new after → Moves calls old sockets new after
+turn_is_moved : {S : Type 0} (calls : S → Reported) (failures : S → ℕ) (old : ServerState) (sockets : S) (r : Result (Unit {0}) LoopFault) (new : ServerState) (after : S) → TurnGives calls failures old sockets r new after → Moves calls old sockets new after
 turn_is_moved calls failures old sockets (Ok u) new after t = row_is_moved calls failures t.0 old sockets new after t.1
-turn_is_moved calls failures old sockets (Err fault.Ready) new after t = nothing_is_moved calls old sockets new after t.told t.same
-turn_is_moved calls failures old sockets (Err fault.Accept) new after t = newcomer_is_moved calls old sockets new after t.told t.same
+turn_is_moved calls failures old sockets (Err fault.Ready) new after t = nothing_is_moved calls old sockets new after t.reported t.same
+turn_is_moved calls failures old sockets (Err fault.Accept) new after t = newcomer_is_moved calls old sockets new after t.reported t.same
 
-both_are_moved : {S : Type 0} (calls : S → Told) (old : ServerState) (sockets : S) (mid : ServerState) (middle : S) (new : ServerState) (after : S) → Moves calls old sockets mid middle → Moves calls mid middle new after → Moves calls old sockets new after
+both_are_moved : {S : Type 0} (calls : S → Reported) (old : ServerState) (sockets : S) (mid : ServerState) (middle : S) (new : ServerState) (after : S) → Moves calls old sockets mid middle → Moves calls mid middle new after → Moves calls old sockets new after
 both_are_moved calls old sockets mid middle new after x y = record {
   since = x.since ++ y.since;
   events = x.events ++ y.events;
@@ -145,12 +145,12 @@ both_are_moved calls old sockets mid middle new after x y = record {
   moves = λ g f fit. flat_map-append g x.since y.since ∙ ap (λ v. v ++ flat_map g y.since) (x.moves g f fit) ∙ ap (λ v. along f old x.events x.outcomes ++ v) (y.moves g f fit) ∙ sym (along_joins f old mid x.events y.events x.outcomes y.outcomes x.run);
 }
 
-pub turns_are_moved : {S : Type 0} (calls : S → Told) (failures : S → ℕ) (rs : List (Result (Unit {0}) LoopFault)) (old : ServerState) (sockets : S) (new : ServerState) (after : S) → Turns calls failures old sockets rs new after → Moves calls old sockets new after
+pub turns_are_moved : {S : Type 0} (calls : S → Reported) (failures : S → ℕ) (rs : List (Result (Unit {0}) LoopFault)) (old : ServerState) (sockets : S) (new : ServerState) (after : S) → Turns calls failures old sockets rs new after → Moves calls old sockets new after
 turns_are_moved calls failures [] old sockets new after t = nothing_is_moved calls old sockets new after (subst (λ k. Grows (calls sockets) (calls k) []) (sym t.1) (grows_nothing (calls sockets))) t.0
 turns_are_moved calls failures (r ∷ rs) old sockets new after t =
     both_are_moved calls old sockets t.0 t.1.0 new after (turn_is_moved calls failures old sockets r t.0 t.1.0 t.1.1) (turns_are_moved calls failures rs t.0 t.1.0 new after t.1.2)
 
--- They open sessions from lawful addresses alone: of any other there would be something.
+-- They open sessions only from lawful addresses: of any other there would be something.
 abbrev unlawful : Option (List ℕ) → List ℕ
 unlawful address = option_map_or (λ a. if is_address a then [] else (0 ∷ [])) address []
 
@@ -180,18 +180,18 @@ opens_lawfully s new (e ∷ es) (o ∷ os) r h =
     let no = empty (unlawful (opened_from e)) (along (λ s e. unlawful (opened_from e)) (after s e o) es os) h in
     All-cons OpensLawfully e es (is_lawful (opened_from e) no.0) (opens_lawfully (after s e o) new es os (subst (λ t. Run t es os new) r.1.leaves r.2) no.1)
 
-open_lawfully : {S : Type 0} (calls : S → Told) (old : ServerState) (sockets : S) (new : ServerState) (after : S) (m : Moves calls old sockets new after) → All OpensLawfully m.events
+open_lawfully : {S : Type 0} (calls : S → Reported) (old : ServerState) (sockets : S) (new : ServerState) (after : S) (m : Moves calls old sockets new after) → All OpensLawfully m.events
 open_lawfully calls old sockets new after m =
     opens_lawfully old new m.events m.outcomes m.run (sym (m.moves (λ x. []) (λ s e. unlawful (opened_from e)) lawful_fits) ∙ none_given m.since)
 
 -- Any turns are one run.
-pub any_turns_are_one_run : {S : Type 0} (calls : S → Told) (failures : S → ℕ) → AnyTurnsAreOneRun calls failures
+pub any_turns_are_one_run : {S : Type 0} (calls : S → Reported) (failures : S → ℕ) → AnyTurnsAreOneRun calls failures
 any_turns_are_one_run {S} calls failures = λ old new sockets after results turns. from old new sockets after (turns_are_moved calls failures results old sockets new after turns)
   where
     from : (old new : ServerState) (sockets after : S) → Moves calls old sockets new after → IsOneRun old new
     from old new sockets after m = (m.events, (m.outcomes, m.run, open_lawfully calls old sockets new after m))
 
-pub any_turns_keep_addresses_lawful : {S : Type 0} (calls : S → Told) (failures : S → ℕ) → EveryRunKeepsAddressesLawful → AnyTurnsKeepAddressesLawful calls failures
+pub any_turns_keep_addresses_lawful : {S : Type 0} (calls : S → Reported) (failures : S → ℕ) → EveryRunKeepsAddressesLawful → AnyTurnsKeepAddressesLawful calls failures
 any_turns_keep_addresses_lawful {S} calls failures kept = λ old new sockets after results turns lawful. from old new sockets after (turns_are_moved calls failures results old sockets new after turns) lawful
   where
     from : (old new : ServerState) (sockets after : S) → Moves calls old sockets new after → All HasLawfulAddress old.sessions → All HasLawfulAddress new.sessions
@@ -260,23 +260,23 @@ came_is_along u s new [] (o ∷ os) r = absurd r
 came_is_along u s new (e ∷ es) [] r = absurd r
 came_is_along u s new (e ∷ es) (o ∷ os) r = ap (λ v. came_in_event u e ++ v) (came_is_along u (after s e o) new es os (subst (λ t. Run t es os new) r.1.leaves r.2))
 
-pub told_since : (a b : Option (List Call)) (before now since : List Call) → GrowsBy a b since → a ≡ Some before → b ≡ Some now → now ≡ before ++ since
-told_since (Some xs) (Some ys) before now since h e k = cc
-told_since None b before now since h e k = cc
-told_since (Some xs) None before now since h e k = cc
+pub reported_since : (a b : Option (List Call)) (before now since : List Call) → GrowsBy a b since → a ≡ Some before → b ≡ Some now → now ≡ before ++ since
+reported_since (Some xs) (Some ys) before now since h e k = cc
+reported_since None b before now since h e k = cc
+reported_since (Some xs) None before now since h e k = cc
 
-pub every_byte_is_moved_once : {S : Type 0} (calls : S → Told) (failures : S → ℕ) → EveryByteIsMovedOnce calls failures
-every_byte_is_moved_once {S} calls failures = λ old new sockets after results before now turns told told_after. from old new sockets after before now (turns_are_moved calls failures results old sockets new after turns) told told_after
+pub every_byte_is_moved_once : {S : Type 0} (calls : S → Reported) (failures : S → ℕ) → EveryByteIsMovedOnce calls failures
+every_byte_is_moved_once {S} calls failures = λ old new sockets after results before now turns reported reported_after. from old new sockets after before now (turns_are_moved calls failures results old sockets new after turns) reported reported_after
   where
     from : (old new : ServerState) (sockets after : S) (before now : List Call) → Moves calls old sockets new after → (calls sockets).answered ≡ Some before → (calls after).answered ≡ Some now
         → (since : List Call) × ((events : List Event) × ((outcomes : List Outcome) × (now ≡ before ++ since) × AreMoved since old events outcomes new))
-    from old new sockets after before now m told told_after = (
+    from old new sockets after before now m reported reported_after = (
       m.since,
       (
         m.events,
         (
           m.outcomes,
-          told_since (calls sockets).answered (calls after).answered before now m.since m.grown.0 told told_after,
+          reported_since (calls sockets).answered (calls after).answered before now m.since m.grown.0 reported reported_after,
           record {
             run = m.run;
             fed = λ c. m.moves (gave_in (is_client c)) (fed_in_event c) (fed_fits c);
@@ -289,7 +289,7 @@ every_byte_is_moved_once {S} calls failures = λ old new sockets after results b
     )
 
 -- What is recorded of the events.
-pub every_event_is_recorded : {S : Type 0} (calls : S → Told) (failures : S → ℕ) → EveryEventIsRecorded calls failures
+pub every_event_is_recorded : {S : Type 0} (calls : S → Reported) (failures : S → ℕ) → EveryEventIsRecorded calls failures
 every_event_is_recorded {S} calls failures = λ old new sockets after results before turns recorded. from old new sockets after before (turns_are_moved calls failures results old sockets new after turns) recorded
   where
     from : (old new : ServerState) (sockets after : S) (before : List Event) → Moves calls old sockets new after → (calls sockets).records before

@@ -7,25 +7,25 @@ use Rattle.nutloop.specs.Pass.{HasTurn, IsOver, again, fresh, goes_on}
 
 -- A turn without a look: one of this pass, or of the next one where the loop goes on without a look.
 abbrev pub HasNext : (Stop → Bool) → Pass → Stop → Pass → Type 0
-HasNext may old told new =
-    HasTurn may old told new
+HasNext may old visited new =
+    HasTurn may old visited new
     ⊎ ((mid : Pass) × IsOver may old mid × (goes_on mid ≡ true)
-    × HasTurn may (again mid) told new)
+    × HasTurn may (again mid) visited new)
 
 -- A turn: who could have had it, who had it, and the pass after it.
 pub record Turn : Type 0 where
   pub may : Stop → Bool
-  pub told : Stop
+  pub visited : Stop
   pub pass : Pass
 
 -- Turns, one after another, without a look.
 abbrev pub GoThrough : Pass → List Turn → Pass → Type 0
 GoThrough old [] new = new ≡ old
-GoThrough old (t ∷ ts) new = HasNext t.may old t.told t.pass × GoThrough t.pass ts new
+GoThrough old (t ∷ ts) new = HasNext t.may old t.visited t.pass × GoThrough t.pass ts new
 
 abbrev pub HadTurn : Stop → List Turn → Type 0
 HadTurn s [] = ⊥
-HadTurn s (t ∷ ts) = (t.told ≡ s) ⊎ HadTurn s ts
+HadTurn s (t ∷ ts) = (t.visited ≡ s) ⊎ HadTurn s ts
 
 abbrev pub WasUnready : Stop → List Turn → Type 0
 WasUnready s [] = ⊥

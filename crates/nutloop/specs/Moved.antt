@@ -17,11 +17,11 @@ use Rattle.nutloop.specs.declared.sockets.Call.{Call}
 use Rattle.nutloop.specs.declared.sockets.Call.TheVariants.{Gave, Wrote}
 use Rattle.nutloop.specs.declared.fault.LoopFault.{LoopFault}
 use Rattle.nutcore.specs.DriverOrders.{owed_to_driver}
-use Rattle.nutloop.specs.Sockets.{Told}
+use Rattle.nutloop.specs.Sockets.{Reported}
 use Rattle.nutloop.specs.Turn.{TurnGives}
 
 -- Turns, one after another, with the answer of each.
-abbrev pub Turns : {S : Type 0} → (S → Told) → (S → ℕ) → ServerState → S
+abbrev pub Turns : {S : Type 0} → (S → Reported) → (S → ℕ) → ServerState → S
     → List (Result (Unit {0}) LoopFault) → ServerState → S → Type 0
 Turns calls failures old sockets [] new after = (new ≡ old) × (after ≡ sockets)
 Turns {S} calls failures old sockets (r ∷ rs) new after =
@@ -29,7 +29,7 @@ Turns {S} calls failures old sockets (r ∷ rs) new after =
     × ((middle : S) × TurnGives calls failures old sockets r mid middle
     × Turns calls failures mid middle rs new after)
 
-abbrev pub SomeTurns : {S : Type 0} → (S → Told) → (S → ℕ) → ServerState → S → ServerState → S
+abbrev pub SomeTurns : {S : Type 0} → (S → Reported) → (S → ℕ) → ServerState → S → ServerState → S
     → Type 0
 SomeTurns calls failures old sockets new after =
     (results : List (Result (Unit {0}) LoopFault))
@@ -44,7 +44,7 @@ abbrev pub is_driver : UpsId → Peer → Bool
 is_driver u (Client d) = false
 is_driver u (Driver v) = v.place == u.place
 
--- The bytes that it gave, and those that it took, of the calls that are told.
+-- The bytes that it gave, and those that it took, of the calls that are reported.
 abbrev pub gave_in : (Peer → Bool) → Call → List ℕ
 gave_in this (Gave p most bytes) = if this p then bytes else []
 gave_in this _ = []
@@ -76,9 +76,9 @@ driver_took_in_event u s (DriverTook v n) =
     if v.place == u.place then take n (owed_to_driver v s) else []
 driver_took_in_event u s _ = []
 
--- The turns told these calls and made these events of the server: each client's bytes are fed to it
--- and each driver's to it, all of them, once and in order; and what each of them took is what the
--- server counts as taken.
+-- The turns reported these calls and made these events of the server: each client's bytes are fed
+-- to it and each driver's to it, all of them, once and in order; and what each of them took is what
+-- the server counts as taken.
 pub record AreMoved (since : List Call) (old : ServerState) (events : List Event)
     (outcomes : List Outcome) (new : ServerState) : Type 0 where
   pub run : Run old events outcomes new
@@ -88,8 +88,8 @@ pub record AreMoved (since : List Call) (old : ServerState) (events : List Event
   pub taken_by_driver : (u : UpsId)
       → bytes_taken (is_driver u) since ≡ along (driver_took_in_event u) old events outcomes
 
--- Over any turns of sockets that tell their calls.
-abbrev pub EveryByteIsMovedOnce : {S : Type 0} → (S → Told) → (S → ℕ) → Type 0
+-- Over any turns of sockets that report their calls.
+abbrev pub EveryByteIsMovedOnce : {S : Type 0} → (S → Reported) → (S → ℕ) → Type 0
 EveryByteIsMovedOnce {S} calls failures =
     (old new : ServerState) (sockets after : S) (results : List (Result (Unit {0}) LoopFault))
     (before now : List Call) → Turns calls failures old sockets results new after

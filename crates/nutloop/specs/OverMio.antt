@@ -43,23 +43,23 @@ abbrev pub GivesTurn : {R F : Type 0} → ServerState → MioSockets R F → Pas
     → Type 0
 GivesTurn s sockets old answer new =
     MatchOption answer (IsOver (may_at s sockets) old new)
-    (λ turn. (told : Stop) × (turn ≡ turn_at s sockets told)
-    × HasTurn (may_at s sockets) old told new)
+    (λ turn. (visited : Stop) × (turn ≡ turn_at s sockets visited)
+    × HasTurn (may_at s sockets) old visited new)
 
 -- The next turn without a look, or the pass is over.
 abbrev pub AnswersKnown : {R F : Type 0} → ServerState → MioSockets R F → Option Ready
     → MioSockets R F → Type 0
 AnswersKnown s old answer new =
     MatchOption answer (IsOver (may_at s old) old.pass old.pass)
-    (λ turn. (told : Stop) × (turn ≡ turn_at s old told)
-    × HasNext (may_at s old) old.pass told new.pass)
+    (λ turn. (visited : Stop) × (turn ≡ turn_at s old visited)
+    × HasNext (may_at s old) old.pass visited new.pass)
 
 -- After a look: a tick, or the first turn of a new pass, or nothing where nobody is ready.
 abbrev pub AnswersLook : {R F : Type 0} → ServerState → Ready → MioSockets R F → Type 0
 AnswersLook s answer new =
     ((second : ℕ) × (answer ≡ ready.Tick second) × (new.pass ≡ fresh))
-    ⊎ (((told : Stop) × (answer ≡ turn_at s new told)
-    × HasTurn (may_at s new) fresh told new.pass)
+    ⊎ (((visited : Stop) × (answer ≡ turn_at s new visited)
+    × HasTurn (may_at s new) fresh visited new.pass)
     ⊎ ((answer ≡ ready.Nothing) × IsOver (may_at s new) fresh new.pass))
 
 -- How many newcomers were sent away, and the number of the error by which a driver couldn't be

@@ -79,9 +79,9 @@ WasVisited pass s = number s < pass.next
 
 -- A visit has one turn, at a stop that wasn't visited before and at which something may be done. Or
 -- the pass is over. Of the others nothing could be done at any that is visited from now on.
-pub record HasTurn (may : Stop → Bool) (old : Pass) (told : Stop) (new : Pass) : Type 0 where
-  pub ready : may told ≡ true
-  pub others : (s : Stop) → WasVisited new s → WasVisited old s ⊎ ((s ≡ told) ⊎ (may s ≡ false))
+pub record HasTurn (may : Stop → Bool) (old : Pass) (visited : Stop) (new : Pass) : Type 0 where
+  pub ready : may visited ≡ true
+  pub others : (s : Stop) → WasVisited new s → WasVisited old s ⊎ ((s ≡ visited) ⊎ (may s ≡ false))
   pub more : old.next < new.next
   pub within : new.next ≤ STOPS
   pub turns : new.turns ≡ min (old.turns + 1) (2 ^ 32 - 1)
@@ -91,7 +91,7 @@ pub record IsOver (may : Stop → Bool) (old new : Pass) : Type 0 where
   pub same : new ≡ old
 
 abbrev pub Visits : (Stop → Bool) → Pass → Option Stop → Pass → Type 0
-Visits may old (Some told) new = HasTurn may old told new
+Visits may old (Some visited) new = HasTurn may old visited new
 Visits may old None new = IsOver may old new
 
 -- The next pass begins without a look where there was a turn, no driver was read, and there were

@@ -12,12 +12,12 @@ use Rattle.nutcore.specs.ReadsBack.{HasLawfulAddress}
 use Rattle.nutcore.specs.Addresses.{OpensLawfully}
 use Rattle.nutloop.specs.declared.fault.LoopFault.{LoopFault}
 use Rattle.nutloop.specs.declared.serving.TheConstants.{TURN_LIMIT}
-use Rattle.nutloop.specs.Sockets.{Told}
+use Rattle.nutloop.specs.Sockets.{Reported}
 use Rattle.nutloop.specs.Turn.{TurnGives}
 use Rattle.nutloop.specs.Moved.{Turns}
 
 -- Turns that ended well, and then one with this fault; or as many that ended well as are made.
-abbrev pub TurnsUpTo : {S : Type 0} → (S → Told) → (S → ℕ) → ServerState → S
+abbrev pub TurnsUpTo : {S : Type 0} → (S → Reported) → (S → ℕ) → ServerState → S
     → Result (Unit {0}) LoopFault → ServerState → S → Type 0
 TurnsUpTo calls failures old sockets (Ok u) new after =
     (n : ℕ) × (n ≡ TURN_LIMIT) × Turns calls failures old sockets (replicate n (Ok tt)) new after
@@ -34,7 +34,7 @@ pub record IsShown {W S : Type 0} (g : Mut W (Bor RunningServer × (Bor S × Uni
 
 -- So many turns that ended well, one after another. After each the watcher is shown the server and
 -- the sockets.
-abbrev pub ShownTurns : {S W : Type 0} → (S → Told) → (S → ℕ)
+abbrev pub ShownTurns : {S W : Type 0} → (S → Reported) → (S → ℕ)
     → (W → RunningServer → S → W → Type 0) → ℕ → ServerState → S → W → ServerState → S → W → Type 0
 ShownTurns calls failures shows zero old sockets watcher new after last =
     (new ≡ old) × (after ≡ sockets) × (last ≡ watcher)
@@ -47,7 +47,7 @@ ShownTurns {S} {W} calls failures shows (suc n) old sockets watcher new after la
 
 -- The watcher is shown the server and the sockets after each turn that ended well, and not after
 -- one that failed.
-abbrev pub ShownUpTo : {S W : Type 0} → (S → Told) → (S → ℕ)
+abbrev pub ShownUpTo : {S W : Type 0} → (S → Reported) → (S → ℕ)
     → (W → RunningServer → S → W → Type 0) → ServerState → S → W → Result (Unit {0}) LoopFault
     → ServerState → S → Type 0
 ShownUpTo {S} {W} calls failures shows old sockets watcher (Ok u) new after =
@@ -61,21 +61,21 @@ ShownUpTo {S} {W} calls failures shows old sockets watcher (Err fault) new after
     × ((last : W) × ShownTurns calls failures shows n old sockets watcher mid middle last
     × TurnGives calls failures mid middle (Err fault) new after)))
 
--- Some events lead there, which open sessions from lawful addresses alone.
+-- Some events lead there, which open sessions only from lawful addresses.
 abbrev pub IsOneRun : ServerState → ServerState → Type 0
 IsOneRun old new =
     (events : List Event)
     × ((outcomes : List Outcome) × Run old events outcomes new × All OpensLawfully events)
 
--- Any turns are one run of the server, also those of sockets that don't tell their calls.
-abbrev pub AnyTurnsAreOneRun : {S : Type 0} → (S → Told) → (S → ℕ) → Type 0
+-- Any turns are one run of the server, also those of sockets that don't report their calls.
+abbrev pub AnyTurnsAreOneRun : {S : Type 0} → (S → Reported) → (S → ℕ) → Type 0
 AnyTurnsAreOneRun {S} calls failures =
     (old new : ServerState) (sockets after : S) (results : List (Result (Unit {0}) LoopFault))
     → Turns calls failures old sockets results new after → IsOneRun old new
 
 -- Over any turns, the record of some events becomes one of these and of the events of one run, each
 -- once and in order.
-abbrev pub EveryEventIsRecorded : {S : Type 0} → (S → Told) → (S → ℕ) → Type 0
+abbrev pub EveryEventIsRecorded : {S : Type 0} → (S → Reported) → (S → ℕ) → Type 0
 EveryEventIsRecorded {S} calls failures =
     (old new : ServerState) (sockets after : S) (results : List (Result (Unit {0}) LoopFault))
     (before : List Event) → Turns calls failures old sockets results new after
@@ -84,7 +84,7 @@ EveryEventIsRecorded {S} calls failures =
     × ((outcomes : List Outcome) × Run old events outcomes new
     × (calls after).records (before ++ events))
 
-abbrev pub AnyTurnsKeepAddressesLawful : {S : Type 0} → (S → Told) → (S → ℕ)
+abbrev pub AnyTurnsKeepAddressesLawful : {S : Type 0} → (S → Reported) → (S → ℕ)
     → Type 0
 AnyTurnsKeepAddressesLawful {S} calls failures =
     (old new : ServerState) (sockets after : S) (results : List (Result (Unit {0}) LoopFault))

@@ -1,5 +1,5 @@
 -- From socket to socket: what a client's socket took is the answers to what it gave; what a
--- driver's socket gave is executed, and what it took is what the driver was told.
+-- driver's socket gave is executed, and what it took is the server's lines to the driver.
 use Rattle.std.specs.Prelude.{◌≡◌, ℕ, true, false, List, ◌++◌, Some, Result, All}
 use Rattle.nutusers.specs.declared.ups_list.UpsId.{UpsId}
 use Rattle.nutcore.specs.declared.event.Event.{Event}
@@ -13,11 +13,11 @@ use Rattle.nutcore.specs.DriverHistory.{StaysConnected, DriverIsHeard, heard}
 use Rattle.nutcore.specs.DriverRuns.{IsNewServer}
 use Rattle.nutcore.specs.DriverOrders.{owed_to_driver, connections}
 use Rattle.nutcore.specs.DriverOrders as driver
-use Rattle.nutcore.specs.OrdersByRight.{all_told}
+use Rattle.nutcore.specs.OrdersByRight.{all_given}
 use Rattle.nutcore.specs.Sound.{IsSound}
 use Rattle.nutloop.specs.declared.sockets.Call.{Call}
 use Rattle.nutloop.specs.declared.fault.LoopFault.{LoopFault}
-use Rattle.nutloop.specs.Sockets.{Told}
+use Rattle.nutloop.specs.Sockets.{Reported}
 use Rattle.nutloop.specs.Moved.{Turns, is_client, is_driver, bytes_given, bytes_taken}
 
 -- Of one client and what was executed for it: all that its socket gave is the executed lines, in
@@ -35,8 +35,8 @@ pub record IsAnswered (c : ℕ) (since : List Call) (executed : List Execution) 
   pub took_once_closed : is_closed c new ≡ true
       → IsBeginning (bytes_taken (is_client c) since) (texts_of executed)
 
--- The turns told these calls and were one run of the server, in which each answer is the reply to
--- its line on the server of that moment; and every client is answered.
+-- The turns reported these calls and were one run of the server, in which each answer is the reply
+-- to its line on the server of that moment; and every client is answered.
 pub record AreAnswered (since : List Call) (old new : ServerState) : Type 0 where
   pub events : List Event
   pub outcomes : List Outcome
@@ -44,8 +44,8 @@ pub record AreAnswered (since : List Call) (old new : ServerState) : Type 0 wher
   pub timely : All (IsTimely old events outcomes) (executions old events outcomes)
   pub answered : (c : ℕ) → IsAnswered c since (of_client c (executions old events outcomes)) new
 
--- Over any turns from a new server, of sockets that tell their calls.
-abbrev pub WhatASocketGaveIsAnswered : {S : Type 0} → (S → Told) → (S → ℕ) → Type 0
+-- Over any turns from a new server, of sockets that report their calls.
+abbrev pub WhatASocketGaveIsAnswered : {S : Type 0} → (S → Reported) → (S → ℕ) → Type 0
 WhatASocketGaveIsAnswered {S} calls failures =
     (old new : ServerState) (sockets after : S) (results : List (Result (Unit {0}) LoopFault))
     (before now : List Call) → IsNewServer old → Turns calls failures old sockets results new after
@@ -53,30 +53,31 @@ WhatASocketGaveIsAnswered {S} calls failures =
     → (since : List Call) × (now ≡ before ++ since) × AreAnswered since old new
 
 -- Of one driver in a run: what was unfinished of it, followed by all that its socket gave, is its
--- executed lines, followed by what is unfinished, and its report is what these lines made of it;
--- what it was owed, followed by what it was told, is what its socket took, followed by what it is
+-- executed lines, followed by what is unfinished, and its report is what these lines made of it.
+-- What it was owed, followed by the lines to it, is what its socket took, followed by what it is
 -- owed.
-pub record IsHeardAndTold (u : UpsId) (since : List Call) (old : ServerState) (events : List Event)
+pub record IsServedByItsSocket (u : UpsId) (since : List Call) (old : ServerState)
+    (events : List Event)
     (outcomes : List Outcome) (new : ServerState) : Type 0 where
   pub gave : DriverIsHeard u old (bytes_given (is_driver u) since) (heard u old events outcomes) new
   pub took : owed_to_driver u old
-      ++ driver.texts_of (all_told (connections u old events outcomes))
+      ++ driver.texts_of (all_given (connections u old events outcomes))
       ≡ bytes_taken (is_driver u) since ++ owed_to_driver u new
 
--- The turns told these calls and were one run of the server; and so is each driver that wasn't lost
--- in it.
-pub record DriversAreHeardAndTold (since : List Call) (old new : ServerState) : Type 0 where
+-- The turns reported these calls and were one run of the server; and so is each driver that wasn't
+-- lost in it.
+pub record DriversAreServedByTheirSockets (since : List Call) (old new : ServerState) : Type 0 where
   pub events : List Event
   pub outcomes : List Outcome
   pub run : Run old events outcomes new
   pub each : (u : UpsId) → StaysConnected u old events outcomes
-      → IsHeardAndTold u since old events outcomes new
+      → IsServedByItsSocket u since old events outcomes new
 
--- Over any turns from a sound server, as each is, of sockets that tell their calls.
-abbrev pub ADriverIsHeardAndToldByItsSocket : {S : Type 0} → (S → Told) → (S → ℕ)
+-- Over any turns from a sound server, as each is, of sockets that report their calls.
+abbrev pub ADriverIsServedByItsSocket : {S : Type 0} → (S → Reported) → (S → ℕ)
     → Type 0
-ADriverIsHeardAndToldByItsSocket {S} calls failures =
+ADriverIsServedByItsSocket {S} calls failures =
     (old new : ServerState) (sockets after : S) (results : List (Result (Unit {0}) LoopFault))
     (before now : List Call) → IsSound old → Turns calls failures old sockets results new after
     → (calls sockets).answered ≡ Some before → (calls after).answered ≡ Some now
-    → (since : List Call) × (now ≡ before ++ since) × DriversAreHeardAndTold since old new
+    → (since : List Call) × (now ≡ before ++ since) × DriversAreServedByTheirSockets since old new

@@ -1,4 +1,4 @@
--- What the sockets answer, and what they tell of it.
+-- What the sockets answer, and what they report of it.
 use Rattle.std.specs.Prelude.{◌≡◌, ℕ, ◌≤◌, List, [], ◌∷◌, ◌++◌, ⊤, Option, Some}
 use Rattle.std.specs.Prelude.{None, Result, Ok, Err, length, take}
 use Rattle.std.specs.List.{flat_map}
@@ -12,14 +12,14 @@ use Rattle.nutloop.specs.declared.sockets.Got.TheVariants.{Bytes, Later, End}
 use Rattle.nutloop.specs.declared.sockets.Ready.{Ready}
 use Rattle.nutcore.specs.declared.event.Peer.{Peer}
 
--- What is told of a read: how many bytes were asked for, as many as there is room for, and what the
--- peer gave.
+-- What is reported of a read: how many bytes were asked for, as many as there is room for, and what
+-- the peer gave.
 abbrev pub read_call : Peer → List ℕ → Got → Call
 read_call p into (Bytes n) = Gave p (length into) (take n into)
 read_call p into Later = Waits p (length into)
 read_call p into End = Ended p (length into)
 
--- What is told of what is known to be ready.
+-- What is reported of what is known to be ready.
 abbrev pub readied : Option Ready → List Call
 readied (Some ready) = Readied ready ∷ []
 readied None = []
@@ -31,15 +31,15 @@ AtMost (Ok Later) into = ⊤
 AtMost (Ok End) into = ⊤
 AtMost (Err e) into = ⊤
 
--- What sockets tell: the calls that were answered, where they are known; and of which events they
+-- What sockets report: the calls that were answered, where they are known; and of which events they
 -- hold a record.
-pub record Told : Type 1 where
+pub record Reported : Type 1 where
   pub answered : Option (List Call)
   pub records : List Event → Type 0
 
--- Sockets that tell nothing.
-abbrev pub nothing_told : Told
-nothing_told = record { answered = None; records = λ events. ⊥ }
+-- Sockets that report nothing.
+abbrev pub nothing_reported : Reported
+nothing_reported = record { answered = None; records = λ events. ⊥ }
 
 -- The event that these bytes come from the peer.
 abbrev pub came_from : Peer → List ℕ → Event
@@ -65,12 +65,12 @@ GrowsBy (Some xs) (Some ys) more = ys ≡ xs ++ more
 abbrev pub Continues : (List Event → Type 0) → (List Event → Type 0) → List Event → Type 0
 Continues old new next = (events : List Event) → old events → new (events ++ next)
 
--- What is told grows by these calls, and the record by their events.
-abbrev pub Grows : Told → Told → List Call → Type 0
+-- What is reported grows by these calls, and the record by their events.
+abbrev pub Grows : Reported → Reported → List Call → Type 0
 Grows old new calls = GrowsBy old.answered new.answered calls
     × Continues old.records new.records (events_in calls)
 
--- A call that is answered is told, and one that fails isn't.
-abbrev pub Logs : {T E : Type 0} → Told → Told → (T → Call) → Result T E → Type 0
-Logs old new call (Ok x) = Grows old new (call x ∷ [])
-Logs old new call (Err e) = Grows old new []
+-- A call that is answered is reported, and one that fails isn't.
+abbrev pub ReportsCall : {T E : Type 0} → Reported → Reported → (T → Call) → Result T E → Type 0
+ReportsCall old new call (Ok x) = Grows old new (call x ∷ [])
+ReportsCall old new call (Err e) = Grows old new []

@@ -29,7 +29,7 @@ use Rattle.nutloop.specs.declared.fault.LoopFault.{LoopFault}
 use Rattle.nutloop.specs.declared.fault.LoopFault.TheVariants as fault
 use Rattle.nutloop.specs.declared.turns.TheConstants.{DRIVER_READ_LIMIT}
 use Rattle.nutio.specs.Ends.{counted}
-use Rattle.nutloop.specs.Sockets.{Told, Grows}
+use Rattle.nutloop.specs.Sockets.{Reported, Grows}
 
 -- The one call that a row makes of the sockets and that may fail, if it makes one: reads has how
 -- many bytes are asked for, writes which ones are offered.
@@ -90,7 +90,8 @@ MayAnswer (writes p bytes) (took n) = n ≤ length bytes
 MayAnswer (writes p bytes) failed = ⊤
 MayAnswer _ _ = ⊥
 
--- What is told of it: a read asks for so many bytes and no fewer, and a write offers all of them.
+-- What is reported of it: a read asks for so many bytes and no fewer, and a write offers all of
+-- them.
 abbrev pub answered : Ask → Answer → List Call
 answered accepts (newcomer address) = Accepted address ∷ []
 answered (reads p most) (gave bytes) = Gave p most bytes ∷ []
@@ -162,49 +163,50 @@ calls_behind (event.DriverBytes u piece) (outcome.Refused fault) =
     if loses_driver fault then Shut (Driver u) ∷ [] else []
 calls_behind _ _ = []
 
--- Each event is told, and then the calls after it.
+-- Each event is reported, and then the calls after it.
 abbrev pub calls_behind_all : List Event → List Outcome → List Call
 calls_behind_all [] os = []
 calls_behind_all (e ∷ es) [] = []
 calls_behind_all (e ∷ es) (o ∷ os) = Happens e ∷ (calls_behind e o ++ calls_behind_all es os)
 
 -- These events were done, with the calls after them, and no call failed.
-pub record Does {S : Type 0} (calls : S → Told) (failures : S → ℕ)
+pub record Does {S : Type 0} (calls : S → Reported) (failures : S → ℕ)
     (events : List Event) (old : ServerState) (sockets : S) (new : ServerState) (after : S)
     : Type 0 where
   pub outcomes : List Outcome
   pub run : Run old events outcomes new
-  pub told : Grows (calls sockets) (calls after) (calls_behind_all events outcomes)
+  pub reported : Grows (calls sockets) (calls after) (calls_behind_all events outcomes)
   pub count : failures after ≡ failures sockets
 
 abbrev pub failures_by : Answer → ℕ → ℕ
 failures_by failed n = counted n
 failures_by _ n = n
 
--- A row is done, after what was told before it: its call is answered, then its events are done,
+-- A row is done, after what was reported before it: its call is answered, then its events are done,
 -- with the calls after them.
-pub record IsRow {S : Type 0} (calls : S → Told) (failures : S → ℕ)
+pub record IsRow {S : Type 0} (calls : S → Reported) (failures : S → ℕ)
     (before : List Call) (ready : Ready) (old : ServerState) (sockets : S) (new : ServerState)
     (after : S) : Type 0 where
   pub answer : Answer
   pub outcomes : List Outcome
   pub may : MayAnswer (ask old ready) answer
   pub run : Run old (row_events old ready answer) outcomes new
-  pub told : Grows (calls sockets) (calls after)
+  pub reported : Grows (calls sockets) (calls after)
       ((before ++ answered (ask old ready) answer)
       ++ calls_behind_all (row_events old ready answer) outcomes)
   pub count : failures after ≡ failures_by answer (failures sockets)
 
--- A call of the loop failed: only what was answered before it is told, and the server is as it was.
-pub record Fails {S : Type 0} (calls : S → Told) (failures : S → ℕ)
+-- A call of the loop failed: only what was answered before it is reported, and the server is as it
+-- was.
+pub record Fails {S : Type 0} (calls : S → Reported) (failures : S → ℕ)
     (before : List Call) (old : ServerState) (sockets : S) (new : ServerState) (after : S)
     : Type 0 where
-  pub told : Grows (calls sockets) (calls after) before
+  pub reported : Grows (calls sockets) (calls after) before
   pub count : failures after ≡ counted (failures sockets)
   pub same : new ≡ old
 
 -- A newcomer's row, or `accept` fails.
-abbrev pub NewcomerGives : {S : Type 0} → (S → Told) → (S → ℕ) → ServerState → S
+abbrev pub NewcomerGives : {S : Type 0} → (S → Reported) → (S → ℕ) → ServerState → S
     → Result (Unit {0}) LoopFault → ServerState → S → Type 0
 NewcomerGives calls failures old sockets (Ok u) new after =
     IsRow calls failures [] Newcomer old sockets new after
@@ -213,7 +215,7 @@ NewcomerGives calls failures old sockets (Err fault.Accept) new after =
     Fails calls failures [] old sockets new after
 
 -- A turn: `ready` is asked once, and then one row is done; or `ready` fails, or `accept` after it.
-abbrev pub TurnGives : {S : Type 0} → (S → Told) → (S → ℕ) → ServerState → S
+abbrev pub TurnGives : {S : Type 0} → (S → Reported) → (S → ℕ) → ServerState → S
     → Result (Unit {0}) LoopFault → ServerState → S → Type 0
 TurnGives calls failures old sockets (Ok u) new after =
     (ready : Ready) × IsRow calls failures (Readied ready ∷ []) ready old sockets new after

@@ -6,7 +6,7 @@ use thiserror::Error;
 /// Why the loop can't go on.
 #[derive(Clone, Copy, Debug, Error)]
 pub enum LoopFault {
-    /// 1: what is ready can't be told.
+    /// 1: the system can't say what is ready.
     #[error("ready failed")]
     Ready,
     /// 2: newcomers can't be taken in.

@@ -28,8 +28,8 @@ impl<F: Read> Ids<F> {
         }
     }
 
-    /// The next one: the first of its sixteen bytes is the highest. Where a read fails, or ends before them, no more are due
-    /// up to the next tick.
+    /// The next one: the first of its sixteen bytes is the highest. Where a read fails, or ends
+    /// before them, no more are due up to the next tick.
     pub fn next(&mut self) -> Option<u128>
         ensures { GivesNext F.remaining
             self.old.due self.old.bytes result self.new.due self.new.bytes }

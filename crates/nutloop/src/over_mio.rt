@@ -1,7 +1,7 @@
 //! The sockets over `mio`: clients come over TCP, and drivers are connected to over Unix sockets.
 ghost use Rattle.std.specs.Prelude.{◌≡◌, ◌*◌, ◌-◌, ◌∷◌, [], IfOk, None};
 ghost use Rattle.nutio.specs.Ends.{IsCounted, counted};
-ghost use Rattle.nutloop.specs.Sockets.{Grows, nothing_told};
+ghost use Rattle.nutloop.specs.Sockets.{Grows, nothing_reported};
 ghost use Rattle.std.specs.Duration.{as_nanos};
 ghost use Rattle.nutloop.specs.Clock.{Ticks, next_second, tick_in};
 ghost use Rattle.nutloop.specs.OverMio.{AnswersKnown, AnswersLook, GivesTurn, error_of, refused};
@@ -36,8 +36,8 @@ use tokens::Source;
 /// The most events that a poll reports. The next one reports the others.
 const EVENT_LIMIT: usize = 256;
 
-/// The sockets of a server: those of its clients, and of the drivers of its UPSs. They also hand in the ids for tracked
-/// orders. The system and the server hold all bytes.
+/// The sockets of a server: those of its clients, and of the drivers of its UPSs. They also hand in
+/// the ids for tracked orders. The system and the server hold all bytes.
 #[derive(Drop)]
 pub struct MioSockets<'a, R, F> {
     rt: &'a R,
@@ -59,8 +59,8 @@ pub struct MioSockets<'a, R, F> {
 }
 
 impl<'a, R: Net + Clock, F: Read + Drop> MioSockets<'a, R, F> {
-    /// Listens at this address, and connects to the server's drivers. The reader gives the ids for tracked orders. Ticks
-    /// count the whole seconds from now on.
+    /// Listens at this address, and connects to the server's drivers. The reader gives the ids for
+    /// tracked orders. Ticks count the whole seconds from now on.
     ///
     /// # Errors
     ///
@@ -104,12 +104,13 @@ impl<'a, R: Net + Clock, F: Read + Drop> MioSockets<'a, R, F> {
     ///
     /// # Errors
     ///
-    /// The system doesn't tell it.
+    /// The system doesn't say.
     pub fn local_addr(&self) -> io::Result<SocketAddr> {
         self.door.listener.local_addr()
     }
 
-    /// The system's number of the error by which the driver of the UPS couldn't be connected to, when that was tried last.
+    /// The system's number of the error by which the driver of the UPS couldn't be connected to,
+    /// when that was tried last.
     pub fn driver_error(&self, u: UpsId) -> Option<i32>
         ensures { result ≡ error_of self.now u }
     {
@@ -135,7 +136,8 @@ impl<'a, R: Net + Clock, F: Read + Drop> MioSockets<'a, R, F> {
         self.visit(server)
     }
 
-    /// The next turn of this pass, if one is left. The first one of a driver reports that it is connected.
+    /// The next turn of this pass, if one is left. The first one of a driver reports that it is
+    /// connected.
     fn visit(&mut self, server: &Server) -> Option<Ready>
         ensures gives { GivesTurn server.now.state self.old self.old.pass result self.new.pass }
         ensures same { self.new
@@ -166,8 +168,8 @@ impl<'a, R: Net + Clock, F: Read + Drop> MioSockets<'a, R, F> {
         })
     }
 
-    /// Asks the system, and waits for it up to the next tick where nobody had a turn; and the clock. A tick, where the
-    /// second is a new one, or else the first turn of a new pass.
+    /// Asks the system, and waits for it up to the next tick where nobody had a turn; and the
+    /// clock. A tick, where the second is a new one, or else the first turn of a new pass.
     fn first_turn(&mut self, server: &Server) -> io::Result<Ready>
         ensures answers { IfOk result (λ ready.
             AnswersLook server.now.state ready self.new) }
@@ -252,7 +254,7 @@ fn up_to_tick(second: u64, elapsed: Duration) -> Duration
 }
 
 impl<'a, R: Net + Clock, F: Read + Drop> Sockets for MioSockets<'a, R, F> {
-    ghost calls = { λ _. nothing_told };
+    ghost calls = { λ _. nothing_reported };
 
     ghost failures = { λ s. s.failures };
 
@@ -263,7 +265,7 @@ impl<'a, R: Net + Clock, F: Read + Drop> Sockets for MioSockets<'a, R, F> {
                 return Some(Ready::Id(id));
             }
         }
-        // What a client is owed changes by its own turns alone.
+        // What a client is owed changes only by its own turns.
         if let Some(Some(client)) = self.clients.get_mut(self.here) {
             client.standing = server.standing(client.id).unwrap_or_default();
         }
@@ -287,7 +289,7 @@ impl<'a, R: Net + Clock, F: Read + Drop> Sockets for MioSockets<'a, R, F> {
     }
 
     fn refuse(&mut self)
-        ensures told { Grows nothing_told nothing_told (Refused ∷ []) }
+        ensures reported { Grows nothing_reported nothing_reported (Refused ∷ []) }
         ensures count { self.new.failures ≡ self.old.failures }
         ensures refused { refused self.new ≡ counted (refused self.old) }
     {

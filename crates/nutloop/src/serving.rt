@@ -7,8 +7,8 @@ use nutcore::Server;
 /// The most turns that one call makes.
 pub const TURN_LIMIT: u64 = u64::MAX;
 
-/// Makes turns one after another, up to the first that fails. After each that ended well the watcher is shown the server
-/// and the sockets, and the notes that it was shown are forgotten.
+/// Makes turns one after another, up to the first that fails. After each that ended well the
+/// watcher is shown the server and the sockets, and the notes that it was shown are forgotten.
 ///
 /// # Errors
 ///

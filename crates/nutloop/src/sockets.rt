@@ -2,7 +2,7 @@
 ghost use Rattle.std.specs.Prelude.{◌≡◌, ◌≤◌, ◌∷◌, [], ℕ, length, IfOk};
 ghost use Rattle.nutloop.specs.declared.sockets.Call.TheVariants.{Readied, Accepted, Named, Refused, Wrote, Shut, Happens};
 ghost use Rattle.nutio.specs.Ends.{IsCounted};
-ghost use Rattle.nutloop.specs.Sockets.{Told, Grows, Logs, AtMost, came_from, read_call, readied};
+ghost use Rattle.nutloop.specs.Sockets.{Reported, Grows, ReportsCall, AtMost, came_from, read_call, readied};
 
 use nutcore::{Bytes, ClientId, Event, Peer, Server, UpsId};
 use nutwords::Address;
@@ -68,26 +68,26 @@ pub struct Broken;
 
 /// The sockets of all peers. No call waits for a peer but `look`, which waits for all of them.
 pub trait Sockets {
-    /// The calls that were answered so far, where these sockets tell them, and of which events they
-    /// hold a record. A call that failed isn't among them.
-    ghost calls: { Self → Told };
+    /// The calls that were answered so far, where these sockets report them, and of which events
+    /// they hold a record. A call that failed isn't among them.
+    ghost calls: { Self → Reported };
 
     /// How many calls failed. The count stops at its greatest number.
     ghost failures: { Self → ℕ };
 
     /// What is known to be ready, of what concerns this server.
     fn known(&mut self, server: &Server) -> Option<Ready>
-        ensures told { Grows (calls self.old) (calls self.new) (readied result) }
+        ensures reported { Grows (calls self.old) (calls self.new) (readied result) }
         ensures count { failures self.new ≡ failures self.old };
 
     /// Looks what is ready, where nothing is known to be.
     fn look(&mut self, server: &Server) -> Result<Ready, Broken>
-        ensures told { Logs (calls self.old) (calls self.new) Readied result }
+        ensures reported { ReportsCall (calls self.old) (calls self.new) Readied result }
         ensures count { IsCounted (failures self.old) (failures self.new) result };
 
     /// What is ready now: what is known to be, or what a look finds.
     final fn ready(&mut self, server: &Server) -> Result<Ready, Broken>
-        ensures told { Logs (calls self.old) (calls self.new) Readied result }
+        ensures reported { ReportsCall (calls self.old) (calls self.new) Readied result }
         ensures count { IsCounted (failures self.old) (failures self.new) result }
     {
         match self.known(server) {
@@ -96,45 +96,47 @@ pub trait Sockets {
         }
     }
 
-    /// Takes in the next newcomer, and tells its address. It is to be named or refused.
+    /// Takes in the next newcomer. The answer is its address. It is to be named or refused.
     fn accept(&mut self) -> Result<Option<Address>, Broken>
-        ensures told { Logs (calls self.old) (calls self.new) Accepted result }
+        ensures reported { ReportsCall (calls self.old) (calls self.new) Accepted result }
         ensures count { IsCounted (failures self.old) (failures self.new) result };
 
     /// The newcomer that was taken in last has the session of this id.
     fn name(&mut self, c: ClientId)
-        ensures told { Grows (calls self.old) (calls self.new) (Named c ∷ []) }
+        ensures reported { Grows (calls self.old) (calls self.new) (Named c ∷ []) }
         ensures count { failures self.new ≡ failures self.old };
 
     /// The newcomer that was taken in last is sent away.
     fn refuse(&mut self)
-        ensures told { Grows (calls self.old) (calls self.new) (Refused ∷ []) }
+        ensures reported { Grows (calls self.old) (calls self.new) (Refused ∷ []) }
         ensures count { failures self.new ≡ failures self.old };
 
-    /// Asks a peer for as many bytes as the buffer has room for, and reads what it gives into the front.
+    /// Asks a peer for as many bytes as the buffer has room for, and reads what it gives into the
+    /// front.
     fn read(&mut self, p: Peer, into: &mut [u8]) -> Result<Got, Broken>
         ensures bound { AtMost result into.new }
-        ensures told { Logs (calls self.old) (calls self.new) (read_call p into.new) result }
+        ensures reported { ReportsCall (calls self.old) (calls self.new) (read_call p into.new) result }
         ensures count { IsCounted (failures self.old) (failures self.new) result };
 
-    /// Offers a peer the bytes, and tells how many of them it took. 0 is for later.
+    /// Offers a peer the bytes. The answer is how many of them it took. 0 is for later.
     fn write(&mut self, p: Peer, from: &[u8]) -> Result<usize, Broken>
         ensures bound { IfOk result (λ n. n ≤ length from.now) }
-        ensures told { Logs (calls self.old) (calls self.new) (Wrote p from.now) result }
+        ensures reported { ReportsCall (calls self.old) (calls self.new) (Wrote p from.now) result }
         ensures count { IsCounted (failures self.old) (failures self.new) result };
 
     /// Shuts the connection of a peer. A client's is gone for good.
     fn shut(&mut self, p: Peer)
-        ensures told { Grows (calls self.old) (calls self.new) (Shut p ∷ []) }
+        ensures reported { Grows (calls self.old) (calls self.new) (Shut p ∷ []) }
         ensures count { failures self.new ≡ failures self.old };
 
     /// This event of the server is next: one without bytes of a peer.
     fn happens(&mut self, event: Event)
-        ensures told { Grows (calls self.old) (calls self.new) (Happens event ∷ []) }
+        ensures reported { Grows (calls self.old) (calls self.new) (Happens event ∷ []) }
         ensures count { failures self.new ≡ failures self.old };
 
     /// The next event of the server is that these bytes come from the peer.
     fn comes(&mut self, from: Peer, bytes: &[u8])
-        ensures told { Grows (calls self.old) (calls self.new) (Happens (came_from from bytes.now) ∷ []) }
+        ensures reported { Grows (calls self.old) (calls self.new)
+            (Happens (came_from from bytes.now) ∷ []) }
         ensures count { failures self.new ≡ failures self.old };
 }

@@ -11,8 +11,8 @@ use std::rc::Rc;
 
 /// Changes the value at the key. No node is made.
 ///
-/// The answer is false, and the tree is as it was, where the tree doesn't have the key, or a node on the way to it is
-/// shared, or the value: `Rc::get_mut` lends what it holds only to its one owner.
+/// The answer is false, and the tree is as it was, where the tree doesn't have the key, or a node
+/// on the way to it is shared, or the value: `Rc::get_mut` lets only the one owner change it.
 pub(crate) fn change_in_place<K: Ord + Drop, V: Drop, F: FnOnce(&mut V)>(
     link: &mut Link<K, V>,
     key: &K,

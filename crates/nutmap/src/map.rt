@@ -21,10 +21,11 @@ use std::rc::Rc;
 
 /// A map in the order of its keys, of which a version can be kept at no cost.
 ///
-/// A version is a map of its own: it keeps its entries whatever is done to the map that it was shared from, and
-/// the other way round. Versions share the nodes of a balanced binary tree and, by `Rc`, the keys and values.
-/// A node that is shared is never changed, so a change makes new nodes from the root to the place of the key. Only where
-/// nobody shares one of these is the value of a key that is there put or changed in place.
+/// A version is a map of its own: it keeps its entries whatever is done to the map that it was
+/// shared from, and the other way round. Versions share the nodes of a balanced binary tree and, by
+/// `Rc`, the keys and values. A node that is shared is never changed, so a change makes new nodes
+/// from the root to the place of the key. Only where nobody shares one of these is the value of a
+/// key that is there put or changed in place.
 ///
 /// Contracts see a map as the list of its entries, whose keys rise.
 #[derive(Drop)]
@@ -86,7 +87,8 @@ impl<K: Ord + Drop, V: Drop> Map<K, V> {
         }
     }
 
-    /// The entry with the least key above `above`, or with the least key of all where that is `None`.
+    /// The entry with the least key above `above`, or with the least key of all where that is
+    /// `None`.
     ///
     /// A walk that goes from each key to the next meets every entry once, and takes no memory.
     pub fn after(&self, above: Option<&K>) -> Option<(&K, &V)>
@@ -102,8 +104,9 @@ impl<K: Ord + Drop, V: Drop> Map<K, V> {
         }
     }
 
-    /// Puts the first entries above `above`, or of all where that is `None`, into `out`, in the order of their keys: as many
-    /// as there is room for. They take the place of what it held. One walk of the tree finds them all.
+    /// Puts the first entries above `above`, or of all where that is `None`, into `out`, in the
+    /// order of their keys: as many as there is room for. They take the place of what it held. One
+    /// walk of the tree finds them all.
     pub fn collect_after<'a, const N: usize>(
         &'a self,
         above: Option<&K>,
@@ -125,7 +128,8 @@ impl<K: Ord + Drop, V: Drop> Map<K, V> {
 
     /// A version with the same entries, which no later change of this map reaches.
     ///
-    /// It asks for no memory. The `Result` is that of `Rc::clone`, which fails where `usize::MAX` versions share a root.
+    /// It asks for no memory. The `Result` is that of `Rc::clone`, which fails where `usize::MAX`
+    /// versions share a root.
     pub fn share(&self) -> Result<Self, AllocError>
         ensures { IfOk result (λ version. version ≡ self.now) }
     {
@@ -136,8 +140,9 @@ impl<K: Ord + Drop, V: Drop> Map<K, V> {
         })
     }
 
-    /// Changes the value of a key in its place, and answers whether it did: it doesn't, and the map is as it was, where the map
-    /// doesn't have the key, or shares the value or a node on the way to it with a version.
+    /// Changes the value of a key in its place, and answers whether it did: it doesn't, and the map
+    /// is as it was, where the map doesn't have the key, or shares the value or a node on the way
+    /// to it with a version.
     ///
     /// It makes no node. A value that it changes is counted by `meter` as one.
     pub fn change_in_place<F: FnOnce(&mut V)>(
@@ -167,14 +172,14 @@ impl<K: Ord + Drop, V: Drop> Map<K, V> {
 
     /// Sets the value of a key, and answers the earlier value. An equal key that is there stays.
     ///
-    /// The nodes that it makes are counted by `meter`: at least one, and at most 8 d + 8, where d is
-    /// how many binary digits write one more than the entries before. A value that is put in place makes none, and is
-    /// counted as one.
+    /// The nodes that it makes are counted by `meter`: at least one, and at most 8 d + 8, where d
+    /// is how many binary digits write one more than the entries before. A value that is put in
+    /// place makes none, and is counted as one.
     ///
     /// # Errors
     ///
-    /// `AllocError` where memory is refused, or the map has `usize::MAX` entries and the value isn't put in place. The map
-    /// is then as it was, and the meter keeps what was made.
+    /// `AllocError` where memory is refused, or the map has `usize::MAX` entries and the value
+    /// isn't put in place. The map is then as it was, and the meter keeps what was made.
     pub fn insert(
         &mut self,
         key: K,
@@ -234,14 +239,16 @@ impl<K: Ord + Drop, V: Drop> Map<K, V> {
         }
     }
 
-    /// Takes out the entry of a key, and answers its value, or answers `None` where the map does not have the key.
+    /// Takes out the entry of a key, and answers its value, or answers `None` where the map does
+    /// not have the key.
     ///
     /// It adds nothing to `meter` where the key is absent, and at most 8 d + 8, where d is how many
     /// binary digits write one more than the entries before.
     ///
     /// # Errors
     ///
-    /// `AllocError` where memory is refused. The map is then as it was, and the meter keeps what was made.
+    /// `AllocError` where memory is refused. The map is then as it was, and the meter keeps what
+    /// was made.
     pub fn remove(&mut self, key: &K, meter: &mut Meter) -> Result<Option<Rc<V>>, AllocError>
         ensures before { IfOk result (λ before. option_map
             (λ held. held.value) before ≡ value_at K.cmp self.old key.now) }

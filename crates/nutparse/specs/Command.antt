@@ -103,7 +103,7 @@ read_set (kind ∷ words) =
 abbrev pub read_instcmd : List (List ℕ) → Result Command ErrWord
 read_instcmd words = command_with (λ a. InstCmd a.0 a.1 a.2) (ups_name_and_value_if_any words)
 
--- GET TRACKING: alone, or with a word that is to be an id, and is none where it isn't one.
+-- GET TRACKING: without a word, or with a word that is to be an id, and is none where it isn't one.
 abbrev pub tracking_asked : List (List ℕ) → Result Command ErrWord
 tracking_asked [] = Ok GetTracking
 tracking_asked (id ∷ []) = Ok (GetProgress (read_id id))

@@ -13,7 +13,8 @@ use nutwords::{SpelledWord, SpelledWords, TextKind, spelled_words};
 use words::id_of;
 pub use words::{NameWord, PasswordWord, TextWord, UpsWord, UserWord, ValueWord};
 
-/// A command of a client, whose words are those of its line. A word that is no lawful name names nothing.
+/// A command of a client, whose words are those of its line. A word that is no lawful name names
+/// nothing.
 #[derive(Drop)]
 pub enum Command<'a> {
     /// `USERNAME`: the name of the user who asks; none where it isn't as long as one may be.
@@ -30,8 +31,8 @@ pub enum Command<'a> {
     Fsd(UpsWord<'a>),
     /// `SET VAR`: a variable is to have this value; none where it isn't as short as one may be.
     SetVar(UpsWord<'a>, NameWord<'a>, ValueWord<'a>),
-    /// `INSTCMD`: the UPS is to do this command, with this value, if one is given; none where it isn't as short as one
-    /// may be.
+    /// `INSTCMD`: the UPS is to do this command, with this value, if one is given; none where it
+    /// isn't as short as one may be.
     InstCmd(UpsWord<'a>, NameWord<'a>, Option<ValueWord<'a>>),
     /// `SET TRACKING`: the session's orders are to be tracked, or not.
     SetTracking(bool),
@@ -85,10 +86,11 @@ impl<'a> Command<'a> {
 
     /// Reads a line without its LF, of at most 2,047 bytes. A line without words is no command.
     ///
-    /// The first word, and the second one of GET, LIST and SET, are read in capitals or not; names byte for byte. Refused, in
-    /// this order: a line that doesn't read as words (INVALID-ARGUMENT); a first word that is no command
-    /// (UNKNOWN-COMMAND); a second word of GET, LIST or SET that isn't known, another number of words, or a third word of
-    /// SET TRACKING that isn't ON or OFF, in capitals or not (INVALID-ARGUMENT).
+    /// The first word, and the second one of GET, LIST and SET, are read in capitals or not; names
+    /// byte for byte. Refused, in this order: a line that doesn't read as words (INVALID-ARGUMENT);
+    /// a first word that is no command (UNKNOWN-COMMAND); a second word of GET, LIST or SET that
+    /// isn't known, another number of words, or a third word of SET TRACKING that isn't ON or OFF,
+    /// in capitals or not (INVALID-ARGUMENT).
     pub fn read(line: &'a [u8]) -> Result<Option<Command<'a>>, ErrWord>
         requires { length line.now ≤ LINE_LIMIT }
         ensures { result ≡ read_command line.now }
@@ -215,7 +217,8 @@ fn ups_and_name<'a, F: FnOnce(UpsWord<'a>, NameWord<'a>) -> Command<'a>>(
     }
 }
 
-/// The words that are to name a UPS and a variable or command of it, and to be a value, which may be left out.
+/// The words that are to name a UPS and a variable or command of it, and to be a value, which may
+/// be left out.
 fn ups_name_and_value_if_any(
     mut words: SpelledWords<'_>,
 ) -> Checked<(UpsWord<'_>, NameWord<'_>, Option<ValueWord<'_>>)>
@@ -230,7 +233,8 @@ fn ups_name_and_value_if_any(
     }
 }
 
-/// What a GET TRACKING asks for: whether orders are tracked, or, with one more word, how far the order of that id has come.
+/// What a GET TRACKING asks for: whether orders are tracked, or, with one more word, how far the
+/// order of that id has come.
 fn tracking_asked(mut words: SpelledWords<'_>) -> Checked<Command<'_>>
     ensures { result ≡ tracking_asked words.entry }
 {

@@ -13,7 +13,8 @@ pub enum ErrWord {
     VarNotSupported,
     /// `CMD-NOT-SUPPORTED`: the UPS has no such command.
     CmdNotSupported,
-    /// `INVALID-ARGUMENT`: the line reads as no words, or the command has other words than it may have.
+    /// `INVALID-ARGUMENT`: the line reads as no words, or the command has other words than it may
+    /// have.
     InvalidArgument,
     /// `INSTCMD-FAILED`: the command can't be sent to the driver.
     InstcmdFailed,

@@ -1,4 +1,5 @@
-//! What a client asks for (RFC 9271): its lines as commands, and the words by which they are refused.
+//! What a client asks for (RFC 9271): its lines as commands, and the words by which they are
+//! refused.
 #![tactic(auto)]
 
 mod command;

@@ -273,7 +273,7 @@ rest_ends w more = sym (append_assoc w (32 ∷ more) (10 ∷ []))
 abbrev happens : Option Event → Option Action
 happens o = option_map (λ event. Happens event) o
 
--- The line of the bytes of a peer, of which some are told by `hex` and none by `part`.
+-- The line of the bytes of a peer, of which some are written by `hex` and none by `part`.
 of_bytes : (list : List Ups) (p : Peer) (part hex who bytes : List ℕ) → IsWord part → IsWord hex → IsWord who → IsBytes bytes
     → ((rest : List ℕ) → is_silent (part ++ 32 ∷ rest) ≡ false) → ((rest : List ℕ) → is_silent (hex ++ 32 ∷ rest) ≡ false)
     → line_of list (sent p bytes) ≡ verb_of_bytes part hex bytes ++ (32 ∷ (who ++ (32 ∷ (encode_lower bytes ++ 10 ∷ []))))

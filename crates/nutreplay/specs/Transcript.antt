@@ -154,7 +154,7 @@ abbrev pub driver_part : List Taken → ℕ → List ℕ → List ℕ
 driver_part taken place name =
     sent_part (codes "driver " ++ name) (sent_to (Driver (id_at place)) taken)
 
--- The drivers of the UPSs that stand from this place on.
+-- The drivers of the UPSs from this place on.
 abbrev pub drivers_part : List Taken → ℕ → List Ups → List ℕ
 drivers_part taken place [] = []
 drivers_part taken place (ups ∷ list) =

@@ -1,4 +1,5 @@
-//! Scripts of events: how an event is written, what a line means, and the transcript of a replay over a server.
+//! Scripts of events: how an event is written, what a line means, and the transcript of a replay
+//! over a server.
 #![tactic(auto)]
 
 pub mod laws;

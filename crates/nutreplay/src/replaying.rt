@@ -62,7 +62,8 @@ impl From<AllocError> for ReplayFault {
 /// # Errors
 ///
 /// `BadEvent` with the number of the first line that is none of a script's lines, and `Memory`:
-/// nothing is written then. `Write`, where a write of this call failed: a beginning of the transcript is written.
+/// nothing is written then. `Write`, where a write of this call failed: a beginning of the
+/// transcript is written.
 pub fn replay<W: Sink>(
     alloc: Global,
     server: &mut Server,

@@ -35,7 +35,8 @@ pub fn read_script(
         × (lines.items ≡ actions_of list.now script.now)) }
     ensures err { IfErr result
         (λ fault. (fault ≡ ReplayFault.Memory)
-        ⊎ ((n : ℕ) × (fault ≡ ReplayFault.BadEvent n) × (first_bad_line list.now script.now ≡ Some n))) }
+        ⊎ ((n : ℕ) × (fault ≡ ReplayFault.BadEvent n)
+        × (first_bad_line list.now script.now ≡ Some n))) }
 {
     let mut lines = Vec::new(alloc);
     let mut number = 0;

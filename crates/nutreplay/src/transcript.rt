@@ -1,4 +1,5 @@
-//! The server of a replayed script, and the transcript of its events: what is noted of each, and what was sent.
+//! The server of a replayed script, and the transcript of its events: what is noted of each, and
+//! what was sent.
 ghost use Rattle.std.specs.Prelude.{◌≡◌, ◌++◌, ◌-◌, ◌<◌, ◌^◌, length, IfOk, OnOk};
 ghost use Rattle.nutcore.specs.Step.{offered};
 ghost use Rattle.nutcore.specs.Server.{session, ups_at};
@@ -31,7 +32,12 @@ impl<'a> Model for Transcript<'a> {
 
     ghost Value = { TranscriptState };
 
-    ghost view = { λ t. record { server = t.server.now.state; text = t.text.items; clients = t.clients.items; taken = t.taken.items } };
+    ghost view = { λ t. record {
+      server = t.server.now.state;
+      text = t.text.items;
+      clients = t.clients.items;
+      taken = t.taken.items;
+    } };
 }
 
 impl<'a> Transcript<'a> {

@@ -111,7 +111,7 @@ failure_in None = None
 abbrev pub stands_alone : List ℕ → Bool
 stands_alone word = bytes_eq word (codes "PENDING") || bytes_eq word (codes "SUCCESS")
 
--- How far an order has come: PENDING or SUCCESS alone, or FAILED and a number.
+-- How far an order has come: PENDING or SUCCESS, or FAILED and a number.
 abbrev pub progress_in : List (List ℕ) → Option (List ℕ)
 progress_in [] = None
 progress_in (word ∷ words) =

@@ -6,7 +6,8 @@ use arrayvec::ArrayVec;
 use nutio::Source;
 use nutwords::{Cut, LINE_ROOM, Line, LineCut};
 
-/// The bytes that were read and not yet used: what has come of a line, and what follows the last cut.
+/// The bytes that were read and not yet used: what has come of a line, and what follows the last
+/// cut.
 #[derive(Drop)]
 pub struct Inbox {
     cut: LineCut,

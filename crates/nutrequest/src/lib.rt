@@ -1,6 +1,7 @@
 //! A client's half of the NUT protocol (RFC 9271): requests, and their replies as they are read.
 //!
-//! A reply is taken as a whole or not at all: it is a function of the bytes that came, however they were cut.
+//! A reply is taken as a whole or not at all: it is a function of the bytes that came, however they
+//! were cut.
 #![tactic(auto)]
 
 mod faults;

@@ -11,7 +11,8 @@ use nutwords::{Line, NAME_LIMIT, UPS_NAME_LIMIT, Value, quote_into};
 /// The most bytes of a request's first word: `USERNAME`, `PASSWORD`.
 const VERB_LIMIT: usize = 8;
 
-/// The most bytes of the words between it and a value, each after a blank: `VAR`, the names of a UPS and of a variable.
+/// The most bytes of the words between it and a value, each after a blank: `VAR`, the names of a
+/// UPS and of a variable.
 const WORDS_LIMIT: usize = 4 + 1 + UPS_NAME_LIMIT + 1 + NAME_LIMIT;
 
 /// The line that is sent for a request, with its LF.

@@ -266,8 +266,8 @@ fn is_error_byte(b: u8) -> bool
     b.is_ascii_alphabetic() || b == b'-'
 }
 
-/// The name and the value of the item that the words are, if they are one. The value is the one word that is left, or
-/// nothing where items have no value and no word is left.
+/// The name and the value of the item that the words are, if they are one. The value is the one
+/// word that is left, or nothing where items have no value and no word is left.
 fn item<'a>(query: &Query, words: Words<'a>) -> Option<(Excerpt<'a>, Excerpt<'a>)>
     ensures { option_map (λ i. record { name = bytes_in i.0; value = bytes_in i.1 }) result
         ≡ option_and_then (item_of query.now) (behind (asked_words query.now) words.entry) }

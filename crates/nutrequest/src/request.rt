@@ -16,8 +16,8 @@ pub enum Query {
     Client(UpsName),
 }
 
-/// A line that a client sends, with the words that it has. Each asks for one reply. The default fills the unused places
-/// of an array.
+/// A line that a client sends, with the words that it has. Each asks for one reply. The default
+/// fills the unused places of an array.
 #[derive(Default, Drop)]
 pub enum Request {
     /// A listing.

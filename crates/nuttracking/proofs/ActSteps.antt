@@ -132,7 +132,7 @@ keep_keep n xs ys =
 
 -- ---- one order, as long as it is kept
 
--- what is told of an order, by how far it has come and what comes later
+-- what is known of an order, by how far it has come and what comes later
 abbrev told : Progress → ℕ → ℕ → List Act → Progress
 told Pending place id later = first_report place id later
 told (Done number) place id later = Done number
@@ -173,7 +173,7 @@ given_after : (place id : ℕ) (ids : List ℕ) (orders : List TrackedOrder) →
 given_after place id [] orders e = absurd (true≢false (sym (ap is_some e)))
 given_after place id (first ∷ rest) orders e = ap (λ (o : Option ℕ). (record { place = place; id = unwrap_or o first }) ∷ []) e
 
--- without an id at hand nothing happens
+-- without an available id nothing happens
 not_given : (place : ℕ) (ids : List ℕ) (orders : List TrackedOrder) → next_id (state ids orders) ≡ None
     → (given_by (state ids orders) (ordered place) ≡ []) × ((with_order place (state ids orders)).orders ≡ orders)
 not_given place [] orders e = (refl, refl)

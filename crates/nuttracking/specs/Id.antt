@@ -26,7 +26,7 @@ groups digits =
 unfoldable pub id_text : ℕ → List ℕ
 id_text id = join_with_byte hyphen (groups (last_digits 32 id))
 
--- The number that the digits of a text say in base sixteen, whatever stands between them.
+-- The number that the digits of a text say in base sixteen, whatever is between them.
 unfoldable pub digits_number : List ℕ → ℕ
 digits_number text = digits_value 16 (filter is_ascii_hexdigit text)
 

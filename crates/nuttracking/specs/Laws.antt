@@ -8,8 +8,8 @@ use Rattle.nuttracking.specs.Acts.Act.{reported}
 use Rattle.nuttracking.specs.Sound.{IsSoundTracking, HaveLawfulNumbers}
 use Rattle.nuttracking.specs.Tracking.{TrackingState, next_id, with_order, progress_of}
 
--- The ids that were used, in order, and then those at hand are the ids that were at hand and were
--- taken in, in order: each is used once, the first one first.
+-- The ids that were used, in order, and then the available ones are the ids that were available and
+-- were taken in, in order: each is used once, the first one first.
 abbrev pub FirstInFirstOut : Type 0
 FirstInFirstOut =
     (t : TrackingState) (acts : List Act)
@@ -44,8 +44,8 @@ LawfulActsKeepNumbersLawful =
     (t : TrackingState) (act : Act) → IsLawfulAct act → HaveLawfulNumbers t.orders
     → HaveLawfulNumbers (after_act t act).orders
 
--- What is told of an order, from when it was given, for as long as it is kept: that it is pending,
--- up to the first report on its id by its own driver; from then on what that said.
+-- The state of an order, from when it was given, for as long as it is kept: it is pending, up to
+-- the first report on its id by its own driver; from then on it is what that said.
 abbrev pub ItsDriverSettlesItOnce : Type 0
 ItsDriverSettlesItOnce =
     (t : TrackingState) (place id : ℕ) (later : List Act) → IsSoundTracking t

@@ -8,16 +8,16 @@ use Rattle.nuttracking.specs.declared.order.TrackedOrder.{TrackedOrder}
 use Rattle.nuttracking.specs.Id.{id_text}
 use Rattle.nuttracking.specs.Tracking.{TrackingState}
 
--- How often the id stands there.
+-- How often the id is there.
 abbrev pub times : ℕ → List ℕ → ℕ
 times id ids = count_by (λ other. other == id) ids
 
--- The ids at hand, and those of the orders that are kept.
+-- The available ids, and those of the orders that are kept.
 abbrev pub known_ids : TrackingState → List ℕ
 known_ids t = t.ids ++ map (λ order. order.id) t.orders
 
--- No more ids are at hand, and no more orders are kept, than may be; an id is a number of 128 bits;
--- and it stands for one thing: it is at hand, once, or one order that is kept has it.
+-- No more ids are available, and no more orders are kept, than may be. An id is a number of 128
+-- bits. It stands for one thing: it is available, once, or one order that is kept has it.
 pub record IsSoundTracking (t : TrackingState) : Type 0 where
   pub ids_few : length t.ids ≤ ID_LIMIT
   pub orders_few : length t.orders ≤ ORDER_LIMIT

@@ -12,7 +12,7 @@ use Rattle.nuttracking.specs.declared.order.TrackedOrder.{TrackedOrder}
 use Rattle.nuttracking.specs.declared.tracking.IdFault.{IdFault}
 use Rattle.nuttracking.specs.declared.tracking.IdFault.TheVariants.{Known, TooMany}
 
--- ids: those at hand, from the first that was handed in. orders: those that are kept, from the
+-- ids: the available ones, from the first that was handed in. orders: those that are kept, from the
 -- oldest.
 pub record TrackingState : Type 0 where
   pub ids : List ℕ
@@ -26,7 +26,7 @@ nothing_tracked = record { ids = []; orders = [] }
 abbrev pub has_id : ℕ → TrackedOrder → Bool
 has_id id order = order.id == id
 
--- An id is known where it is at hand, or an order that is kept has it.
+-- An id is known where it is available, or an order that is kept has it.
 abbrev pub is_known : ℕ → TrackingState → Bool
 is_known id t = list_any (λ other. other == id) t.ids || list_any (has_id id) t.orders
 
@@ -41,7 +41,7 @@ id_fault id t =
 abbrev pub is_taken_in : ℕ → TrackingState → Bool
 is_taken_in id t = is_none (id_fault id t) && nat_lt id (2 ^ 128)
 
--- An id is handed in: one that is taken in comes behind those at hand.
+-- An id is handed in: one that is taken in comes after the available ones.
 abbrev pub with_id : ℕ → TrackingState → TrackingState
 with_id id t = if is_taken_in id t then record t { ids = t.ids ++ id ∷ [] } else t
 
@@ -54,8 +54,8 @@ next_id t = slice_get t.ids 0
 abbrev pub pending : ℕ → ℕ → TrackedOrder
 pending place id = record { id = id; place = place; progress = Pending }
 
--- The first id at hand is used for an order to the driver of the UPS at this place, which is kept;
--- of more than may be kept the oldest goes.
+-- The first available id is used for an order to the driver of the UPS at this place, which is
+-- kept; of more than may be kept the oldest goes.
 abbrev pub with_order : ℕ → TrackingState → TrackingState
 with_order place t =
     option_map_or (λ id. record {

@@ -7,8 +7,8 @@ use uuid::Uuid;
 /// How many bytes an id is written in.
 pub const ID_LENGTH: usize = 36;
 
-/// The id as it is written: 32 hexadecimal digits in lower case, in groups of 8, 4, 4, 4 and 12 with hyphens between. Takes
-/// no memory.
+/// The id as it is written: 32 hexadecimal digits in lower case, in groups of 8, 4, 4, 4 and 12
+/// with hyphens between. Takes no memory.
 pub fn id_text(id: u128) -> [u8; ID_LENGTH]
     ensures { result ≡ id_text id }
 {

@@ -1,4 +1,4 @@
-//! Tracked orders: the form of their ids, the ids at hand, and the orders that are kept.
+//! Tracked orders: the form of their ids, the available ids, and the orders that are kept.
 #![tactic(auto)]
 
 mod id;

@@ -1,6 +1,6 @@
 //! How much there may be.
 
-/// Ids at hand.
+/// Available ids.
 pub const ID_LIMIT: usize = 64;
 
 /// Tracked orders that are kept.

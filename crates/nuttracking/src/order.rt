@@ -5,7 +5,7 @@ ghost use Rattle.nuttracking.specs.Tracking.{has_id, is_pending, awaits};
 /// How far an order has come.
 #[derive(Clone, Copy)]
 pub enum Progress {
-    /// Its driver hasn't told yet how it ended.
+    /// Its driver hasn't reported yet how it ended.
     Pending,
     /// Its driver said that it is done: 0 where it succeeded, else how it failed.
     Done(u32),

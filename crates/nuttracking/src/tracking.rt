@@ -1,4 +1,4 @@
-//! The ids at hand, and the orders that are kept.
+//! The available ids, and the orders that are kept.
 ghost use Rattle.std.specs.Prelude.{◌≡◌, ◌==◌, ◌≤◌, length, IfOk, MatchResult, Some, None, true, false};
 ghost use Rattle.nuttracking.specs.Tracking.{nothing_tracked, next_id, is_known, id_fault, with_id, with_order, is_awaited, with_report, progress_of, has_id, awaits};
 ghost use Rattle.std.specs.List.{list_any, position};
@@ -13,13 +13,14 @@ use std::marker::Model;
 /// Why an id isn't taken in.
 #[derive(Clone, Copy)]
 pub enum IdFault {
-    /// It is at hand already, or an order that is kept has it.
+    /// It is available already, or an order that is kept has it.
     Known,
-    /// 64 ids are at hand.
+    /// 64 ids are available.
     TooMany,
 }
 
-/// The ids at hand, from the first that was handed in, and the orders that are kept, from the oldest.
+/// The available ids, from the first that was handed in, and the orders that are kept, from the
+/// oldest.
 ///
 /// Only `new` asks for memory: all that it will ever take.
 #[derive(Drop)]
@@ -47,7 +48,7 @@ impl Model for Tracking {
 }
 
 impl Tracking {
-    /// No id is at hand, and no order is kept.
+    /// No id is available, and no order is kept.
     ///
     /// # Errors
     ///
@@ -60,7 +61,7 @@ impl Tracking {
         Ok(Tracking { ids, orders })
     }
 
-    /// The id that the next order uses, if one is at hand.
+    /// The id that the next order uses, if one is available.
     pub fn next_id(&self) -> Option<u128>
         ensures { result ≡ next_id self.now }
     {
@@ -75,14 +76,14 @@ impl Tracking {
         Some(order.progress)
     }
 
-    /// Whether the id is at hand, or an order that is kept has it.
+    /// Whether the id is available, or an order that is kept has it.
     fn is_known(&self, id: u128) -> bool
         ensures { result ≡ is_known id self.now }
     {
         is_at_hand(id, &self.ids) || is_kept(id, &self.orders)
     }
 
-    /// Puts an id behind those at hand.
+    /// Puts an id after the available ones.
     ///
     /// # Errors
     ///
@@ -102,8 +103,9 @@ impl Tracking {
         Ok(())
     }
 
-    /// Uses the first id at hand for an order to the driver of the UPS at this place: the order is kept, pending, and the
-    /// oldest one goes where 256 are kept. Without an id at hand nothing changes.
+    /// Uses the first available id for an order to the driver of the UPS at this place: the order
+    /// is kept, pending, and the oldest one goes where 256 are kept. Without an available id
+    /// nothing changes.
     pub fn use_for(&mut self, place: usize) -> Option<u128>
         ensures id { result ≡ next_id self.old }
         ensures after { self.new ≡ with_order place self.old }
@@ -117,8 +119,9 @@ impl Tracking {
         Some(id)
     }
 
-    /// The driver of the UPS at this place reports how the order of this id ended. Where that order is one of its UPS and
-    /// pending, it is done with this number; else nothing changes, and the answer is `false`.
+    /// The driver of the UPS at this place reports how the order of this id ended. Where that order
+    /// is one of its UPS and pending, it is done with this number; else nothing changes, and the
+    /// answer is `false`.
     pub fn settle(&mut self, place: usize, id: u128, number: u32) -> bool
         requires { number ≤ DONE_LIMIT }
         ensures answer { result ≡ is_awaited place id self.old }
@@ -135,7 +138,7 @@ impl Tracking {
     }
 }
 
-/// Whether the id is one of those at hand.
+/// Whether the id is one of the available ones.
 fn is_at_hand(id: u128, ids: &HeapCircularBuffer<u128>) -> bool
     ensures { result ≡ list_any (λ other. other == id) ids.now.items }
 {

@@ -1,4 +1,4 @@
--- The refusal that is computed is the one that is told.
+-- The refusal that is computed is the one that is given.
 use Rattle.std.proofs.Common.{◌≡◌, ◌≢◌, ℕ, ◌+◌, Bool, List, [], ◌∷◌, ◌++◌, length, reverse, Some, refl, sym, ap, ◌∙◌, append_assoc, append-nil}
 use Rattle.std.proofs.lemmas.List.{reverse-reverse}
 use Rattle.nutusers.specs.File.{Format, AreAccepted, verdict_of}

@@ -4,7 +4,7 @@ use Rattle.std.specs.Result.{result_ok}
 use Rattle.nutwords.specs.Reading.{read_text, is_text}
 use Rattle.nutusers.specs.declared.limits.TheConstants.{USER_NAME_LIMIT, PASSWORD_LIMIT}
 
--- Each byte may stand in them.
+-- Each byte may be in them.
 abbrev pub any_byte : ℕ → Bool
 any_byte b = true
 

@@ -21,8 +21,8 @@ refusal_after format earlier (line ∷ later) =
 abbrev pub first_refusal : Format → List (List ℕ) → Option ConfFault
 first_refusal format lines = refusal_after format [] lines
 
--- A file of which each line is accepted has no refusal, and one that is refused, but for being out
--- of memory, has this one.
+-- A file of which each line is accepted has no refusal, and one that is refused, except for being
+-- out of memory, has this one.
 pub record HasOneRefusal (format : Format) (adds : List ℕ → Bool)
     (lines : List (List ℕ)) : Type 0 where
   pub accepted : AreAccepted format (reverse lines) → first_refusal format lines ≡ None

@@ -1,4 +1,4 @@
-//! The version of the programs and of the package, said here alone: the Makefile reads it too.
+//! The version of the programs and of the package, said only here: the Makefile reads it too.
 #![tactic(auto)]
 
 /// The version. Between releases it is the next one's with `~dev`, which Debian sorts before it.

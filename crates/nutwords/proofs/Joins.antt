@@ -28,6 +28,6 @@ Reads-behind _ more _ vs nothing r = r
 Reads-behind front more ws vs (before_blank {line = line} b l h e) r =
     subst (λ x. Reads x (ws ++ vs)) (sym (ap (λ x. x ++ more) e ∙ append_assoc line (b ∷ []) more)) (Reads-join line more b ws vs l h r)
 
--- a word alone is a line
+-- a single word is a line
 pub Reads-word : (text w : List ℕ) → Spells text w → Reads text (w ∷ [])
 Reads-word text w s = word (sym (append-nil text)) s tt end

@@ -92,7 +92,7 @@ Spells-leads : (text w : List ℕ) → Spells text w → LeadsToEnd Between text
 Spells-leads text w (bare h) = (Bare, bare_word text w h.0 h.1, refl)
 Spells-leads text w (quoted h) = (Closed, quoted_then 34 Closed text h.0 w refl h.1 h.2, refl)
 
--- what follows a word is as if it stood alone
+-- what follows a word is as if there were no word before it
 behind_word : (place : ScanState) (rest : List ℕ) → step place Blank ≡ Ok Between → WordEndsBefore rest → LeadsToEnd Between rest → LeadsToEnd place rest
 behind_word place [] h a r = (place, here, h)
 behind_word place (b ∷ rest) h a r = go r.0 r.1 r.2

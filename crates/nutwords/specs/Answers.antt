@@ -26,8 +26,8 @@ pub data IsAnswer : List ℕ → Type 0 where
   listing : (line text : List ℕ) → has_lf line ≡ false → begins_listing line ≡ true
       → GoesToEnd text → IsAnswer (with_lf line ++ text)
 
--- Answers that stand first in a text of answers are the first of those answers, and what stands
--- after them is the others.
+-- The first answers of a text of answers are the first of those answers, and what comes after them
+-- is the others.
 abbrev pub FirstAnswersAreTheFirst : Type 0
 FirstAnswersAreTheFirst =
     (answers firsts : List (List ℕ)) (rest : List ℕ) → All IsAnswer answers → All IsAnswer firsts

@@ -60,20 +60,19 @@ EndsInQuotedBackslash =
     EndsIn (λ part word. (units : List ℕ) × Units is_quotable units word
     × (part ≡ 34 ∷ (units ++ 92 ∷ [])))
 
--- The fault of a byte that can't stand after these bytes.
+-- The fault of a byte that can't come after these bytes.
 pub data IsByteFault (front : List ℕ) (b : ℕ) : BadLine → Type 0 where
   control : (IsTrue (is_lawful b) → ⊥) → IsByteFault front b ControlByte
   quote_inside : b ≡ 34 → EndsInBareWord front → IsByteFault front b QuoteInside
   after_quote : IsTrue (is_lawful b) → EndsInQuotedWord front → IsByteFault front b AfterQuote
 
--- The fault of a line of which each byte can stand, and that reads as no words.
+-- The fault of a line of which each byte can be where it is, and that reads as no words.
 pub data IsEndFault (line : List ℕ) : BadLine → Type 0 where
   bare_backslash : EndsInBareBackslash line → IsEndFault line LoneBackslash
   quoted_backslash : EndsInQuotedBackslash line → IsEndFault line LoneBackslash
   open_quote : EndsInOpenQuote line → IsEndFault line OpenQuote
 
--- The fault of a line: that of the leftmost byte that can't stand where it is, else that of its
--- end.
+-- The fault of a line: that of the leftmost byte that can't be where it is, else that of its end.
 pub data IsFault (line : List ℕ) (fault : BadLine) : Type 0 where
   at_byte : (place : ℕ) → IsFirstBad line place
       → IsByteFault (take place line) (slice_index line place) fault → IsFault line fault

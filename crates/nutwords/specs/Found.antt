@@ -17,9 +17,9 @@ FindsLine held piece line used =
     (split_line (held ++ piece) ≡ Some (line, drop used piece)) × (0 < used) × (used ≤ length piece)
     × (length line < LINE_ROOM)
 
--- What a cutter answers that holds these bytes and is lent this piece, and what it holds
--- afterwards: the line stands at the front of the piece, and nothing is held; or the line is what
--- is held now; or all of the piece is held, and no line is whole; or 2,048 bytes stand without LF.
+-- What a cutter that holds these bytes answers to this piece, and what it holds afterwards: the
+-- line is at the front of the piece, and nothing is held; or the line is what is held now; or all
+-- of the piece is held, and no line is whole; or there are 2,048 bytes without LF.
 abbrev pub Finds : List ℕ → List ℕ → Found → List ℕ → Type 0
 Finds held piece (InPiece n) after = FindsLine held piece (take n piece) (n + 1) × (after ≡ [])
 Finds held piece (Joined used) after = FindsLine held piece after used

@@ -40,7 +40,7 @@ pub data Reads : List ℕ → List (List ℕ) → Type 0 where
   word : {line text rest word : List ℕ} {words : List (List ℕ)} → line ≡ text ++ rest
       → Spells text word → WordEndsBefore rest → Reads rest words → Reads line (word ∷ words)
 
--- The bytes read as these words, and whatever follows begins anew: nothing, or a line and one
+-- The bytes read as these words, and whatever follows begins a new word: nothing, or a line and one
 -- blank. (A last byte that is a blank wouldn't do: it may be escaped.)
 pub data ReadsToBoundary : List ℕ → List (List ℕ) → Type 0 where
   nothing : ReadsToBoundary [] []

@@ -8,7 +8,7 @@ use Rattle.nutwords.specs.Cut.{Cuts}
 use Rattle.nutwords.specs.declared.limits.TheConstants.{LINE_ROOM}
 use Rattle.nutwords.specs.declared.cut.Cut.TheVariants.{Line, More, TooLong}
 
--- What stands after the whole lines of a text: an unfinished line, or bytes that are too long to be
+-- What comes after the whole lines of a text: an unfinished line, or bytes that are too long to be
 -- a line.
 pub data Tail : Type 0 where
   Unfinished : List ℕ → Tail

@@ -12,12 +12,12 @@ abbrev pub is_empty : {A : Type 0} → List A → Bool
 is_empty [] = true
 is_empty (x ∷ xs) = false
 
--- There is a first byte, and it is no 0 or stands alone.
+-- There is a first byte, and it is no 0 or is the only one.
 abbrev pub has_no_leading_zero : List ℕ → Bool
 has_no_leading_zero [] = false
 has_no_leading_zero (b ∷ bytes) = not (b == 48) || is_empty bytes
 
--- Digits, one at least, of which the first is 0 only where it is alone.
+-- Digits, one at least, of which the first is 0 only where it is the only one.
 abbrev pub is_natural : List ℕ → Bool
 is_natural digits = list_all is_digit digits && has_no_leading_zero digits
 

@@ -1,4 +1,4 @@
--- The spelling of a word as it stands in a line.
+-- The spelling of a word in a line.
 use Rattle.std.specs.Prelude.{◌≡◌, ℕ, Bool, true, false, ◌==◌, List}
 use Rattle.std.specs.List.{list_any}
 use Rattle.nutwords.specs.Bytes.{is_quotable}
@@ -12,7 +12,7 @@ use Rattle.nutwords.specs.declared.word.Word.TheVariants.{Plain, Unescaped}
 abbrev pub spelled : List ℕ → List ℕ
 spelled text = unescaped text false
 
--- A byte of the word stands after a backslash.
+-- A byte of the word comes after a backslash.
 abbrev pub holds_escapes : List ℕ → Bool
 holds_escapes text = list_any (λ b. b == 92) text
 
@@ -28,6 +28,6 @@ QuotedIsSpelled = (text word : List ℕ) → Units is_quotable text word → spe
 abbrev pub BareIsSpelled : Type 0
 BareIsSpelled = (text word : List ℕ) → IsBareWord text word → spelled text ≡ word
 
--- A word without a backslash stands as it is.
+-- A word without a backslash is as it is spelled.
 abbrev pub PlainStandsForItself : Type 0
 PlainStandsForItself = (text : List ℕ) → holds_escapes text ≡ false → spelled text ≡ text

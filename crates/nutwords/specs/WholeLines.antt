@@ -33,16 +33,16 @@ whole_lines bytes = take_while is_short (ended_lines bytes)
 unfoldable pub unfinished_after : List ℕ → List ℕ
 unfinished_after bytes = drop (length (joined (whole_lines bytes))) bytes
 
--- It can't become a line: 2,048 bytes stand without an LF.
+-- It can't become a line: there are 2,048 bytes without an LF.
 abbrev pub is_too_long : List ℕ → Bool
 is_too_long rest = nat_le LINE_ROOM (length rest)
 
--- What stands after the whole lines: what is unfinished, or what is too long.
+-- What comes after the whole lines: what is unfinished, or what is too long.
 abbrev pub tail_after : List ℕ → Tail
 tail_after bytes =
     if is_too_long (unfinished_after bytes) then Overlong else Unfinished (unfinished_after bytes)
 
--- These are the lines and the tail into which each text is cut, and which it has alone.
+-- These are the lines and the tail into which each text is cut, and no others are.
 abbrev pub WholeLinesAreTheCut : Type 0
 WholeLinesAreTheCut = (bytes : List ℕ) → IsCutInto bytes (whole_lines bytes) (tail_after bytes)
 

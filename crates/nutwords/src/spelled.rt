@@ -13,7 +13,8 @@ use crate::{BadName, LINE_LIMIT, Text, TextKind, Word};
 use arrayvec::ArrayVec;
 use std::marker::Model;
 
-/// A word of a line as it is spelled there, without its quotes. It is unescaped only where it is read.
+/// A word of a line as it is spelled there, without its quotes. It is unescaped only where it is
+/// read.
 #[derive(Drop)]
 pub struct SpelledWord<'a> {
     text: &'a [u8],
@@ -29,11 +30,12 @@ impl<'a> Model for SpelledWord<'a> {
 
     ghost view = { λ w. w.text.now };
 
-    ghost invariant = { λ w. (w.is_escaped ≡ holds_escapes w.text.now) × (length w.text.now ≤ LINE_LIMIT) };
+    ghost invariant = { λ w.
+        (w.is_escaped ≡ holds_escapes w.text.now) × (length w.text.now ≤ LINE_LIMIT) };
 }
 
 impl<'a> SpelledWord<'a> {
-    /// Whether a byte of it stands after a backslash.
+    /// Whether a byte of it follows a backslash.
     pub fn holds_escapes(&self) -> bool
         ensures { result ≡ holds_escapes self.now }
     {
@@ -83,7 +85,8 @@ impl<'a> SpelledWord<'a> {
         }
     }
 
-    /// The word with the bytes that it stands for. They are borrowed from the line, unless it holds escapes.
+    /// The word with the bytes that it stands for. They are borrowed from the line, unless it holds
+    /// escapes.
     pub fn to_word(self) -> Word<'a>
         ensures bytes { bytes_of result ≡ spelled self.entry }
         ensures borrowed { is_borrowed result ≡ not (holds_escapes self.entry) }
@@ -136,8 +139,8 @@ fn spells_word(text: &[u8], keyword: &[u8]) -> bool
     left.is_empty()
 }
 
-/// The words of a line that are left, first to last, each as it is spelled. `spelled_words` makes it; no word is refused
-/// any more.
+/// The words of a line that are left, first to last, each as it is spelled. `spelled_words` makes
+/// it; no word is refused any more.
 #[derive(Clone, Drop)]
 pub struct SpelledWords<'a> {
     pub(crate) rest: &'a [u8],
@@ -152,7 +155,8 @@ impl<'a> Model for SpelledWords<'a> {
 
     ghost view = { λ w. words_of w.rest.now };
 
-    ghost invariant = { λ w. (is_ok (read_line w.rest.now) ≡ true) × (length w.rest.now ≤ LINE_LIMIT) };
+    ghost invariant = { λ w.
+        (is_ok (read_line w.rest.now) ≡ true) × (length w.rest.now ≤ LINE_LIMIT) };
 }
 
 impl<'a> Iterator for SpelledWords<'a> {

@@ -48,7 +48,8 @@ impl Client for Upscmd {
     }
 
     fn given<'a>(matches: &ArgMatches<'a>) -> Given<'a> {
-        // The parser demands a UPS, and a user, a password and a command where none are to be listed.
+        // The parser demands a UPS, and a user, a password and a command where none are to be
+        // listed.
         let ups = matches.get_str("UPS").unwrap_or("");
         if matches.get_flag("l") {
             return Given::Commands(ups);

@@ -7,7 +7,7 @@ use Rattle.nutusers.specs.UpsList.{Ups, IsList}
 use Rattle.nutcore.specs.declared.event.Event.{Event}
 use Rattle.nutcore.specs.declared.event.Peer.{Peer}
 use Rattle.nutcore.specs.declared.event.Peer.TheVariants.{Client, Driver}
-use Rattle.nutloop.specs.Sockets.{Told, Continues, Logs, events_in, came_from}
+use Rattle.nutloop.specs.Sockets.{Reported, Continues, ReportsCall, events_in, came_from}
 use Rattle.nutloop.specs.declared.sockets.Call.{Call}
 use Rattle.nutreplay.specs.Script.{sent}
 use Rattle.nutreplay.specs.Written.{IsReadAs, IsEventOf, line_of, line_of_bytes}
@@ -154,8 +154,8 @@ module _ {W : Type 0} (contents : W → Option (List ℕ)) (failures : W → ℕ
       with_none list true file events h = h
       with_none list false file events h = nothing_waits list file events h
 
--- A look behind a write of what waits.
-pub looked : {T E : Type 0} (old new : Told) (records written : List Event → Type 0) (call : T → Call) (result : Result T E) → Continues records written [] → ((x : T) → events_in (call x ∷ []) ≡ [])
-    → Logs old new call result → Logs (recorded old records) (recorded new written) call result
-looked old new records written call (Ok x) goes_on no_event told = (told.0, subst (λ es. Continues records written es) (sym (no_event x)) goes_on)
-looked old new records written call (Err e) goes_on no_event told = (told.0, goes_on)
+-- A look after a write of what waits.
+pub looked : {T E : Type 0} (old new : Reported) (records written : List Event → Type 0) (call : T → Call) (result : Result T E) → Continues records written [] → ((x : T) → events_in (call x ∷ []) ≡ [])
+    → ReportsCall old new call result → ReportsCall (recorded old records) (recorded new written) call result
+looked old new records written call (Ok x) goes_on no_event reported = (reported.0, subst (λ es. Continues records written es) (sym (no_event x)) goes_on)
+looked old new records written call (Err e) goes_on no_event reported = (reported.0, goes_on)

@@ -16,7 +16,7 @@ use Rattle.upsd.specs.declared.ending.Ending.{Ending}
 use Rattle.upsd.specs.declared.ending.Ending.TheVariants as endings
 use Rattle.upsd.specs.declared.files.Configuration.{Configuration}
 use Rattle.upsd.specs.declared.files.Files.{Files}
-use Rattle.upsd.specs.Ending.{TellsRefusal}
+use Rattle.upsd.specs.Ending.{EndsByRefusal}
 use Rattle.upsd.specs.Reading.{Readings, CantBeRead}
 
 -- The lines of the file of this path mean this; where no file is named, it is the other.
@@ -26,7 +26,7 @@ IsMeantBy gives means other None meant = meant ≡ other
 IsMeantBy gives means other (Some path) meant =
     (bytes : List ℕ) × gives path.now (Ok bytes) × means (lines_of bytes) meant
 
--- The list of the UPS `su` alone.
+-- The list of only the UPS `su`.
 abbrev pub su_alone : List Ups
 su_alone = new_ups (codes "su") ∷ []
 
@@ -46,15 +46,15 @@ pub record AreMeant (gives : Readings) (files : Files) (c : Configuration) : Typ
   pub users : AreUsersOf gives files.users c.users
   pub descriptions : AreDescriptionsOf gives files.vars c.descriptions
 
--- The file of this path can't be read, or its format refuses it, or memory is refused: the ending
--- tells it.
+-- The ending says that the file of this path can't be read, or that its format refuses it, or that
+-- memory is refused.
 abbrev pub FailsBy : Readings → Format → (List ℕ → Bool) → Option (Bor (List ℕ)) → Ending → Type 0
 FailsBy gives format adds None ending = ending ≡ endings.Memory
 FailsBy gives format adds (Some path) ending = CantBeRead gives path ending
     ⊎ ((bytes : List ℕ) × gives path.now (Ok bytes)
-    × TellsRefusal format adds path (lines_of bytes) ending)
+    × EndsByRefusal format adds path (lines_of bytes) ending)
 
--- The ending tells of the first of the files that fails; those before it mean something.
+-- The ending is about the first of the files that fails; those before it mean something.
 abbrev pub FirstFails : Readings → Files → Ending → Type 0
 FirstFails gives files ending = FailsBy gives ups_format adds_ups files.ups ending
     ⊎ (((list : List Ups) × IsListOf gives files.ups list

@@ -15,17 +15,17 @@ use Rattle.nutloop.specs.declared.fault.LoopFault.{LoopFault}
 use Rattle.nutreplay.specs.declared.replaying.ReplayFault.{ReplayFault}
 use Rattle.nutreplay.specs.declared.replaying.ReplayFault.TheVariants as faults
 
--- The ending tells of this refusal of the file: no memory where memory was refused, and nowhere
--- else; else the file's path, and the line and the cause's number of the refusal.
-pub record IsToldOf (path : Bor (List ℕ)) (fault : ConfFault) (ending : Ending) : Type 0 where
+-- The ending for this refusal of the file: no memory where memory was refused, and nowhere else;
+-- else the file's path, and the line and the cause's number of the refusal.
+pub record EndsByFault (path : Bor (List ℕ)) (fault : ConfFault) (ending : Ending) : Type 0 where
   pub memory : fault.cause ≡ causes.Memory → ending ≡ endings.Memory
   pub line : fault.cause ≢ causes.Memory
       → ending ≡ endings.Refused path fault.line (number_of_cause fault.cause)
 
--- The ending tells of the refusal of a file with these lines.
-abbrev pub TellsRefusal : Format → (List ℕ → Bool) → Bor (List ℕ) → List (List ℕ) → Ending → Type 0
-TellsRefusal format adds path lines ending =
-    (fault : ConfFault) × IsRefused format adds lines fault × IsToldOf path fault ending
+-- The ending for the refusal of a file with these lines.
+abbrev pub EndsByRefusal : Format → (List ℕ → Bool) → Bor (List ℕ) → List (List ℕ) → Ending → Type 0
+EndsByRefusal format adds path lines ending =
+    (fault : ConfFault) × IsRefused format adds lines fault × EndsByFault path fault ending
 
 -- How the program ends where its script isn't replayed.
 abbrev pub ending_of_replay : Bor (List ℕ) → ReplayFault → Ending
@@ -40,20 +40,20 @@ IsEndOfServing address ending = (ending ≡ endings.Memory)
     ⊎ ((ending ≡ endings.Write) ⊎ (((fault : LoopFault) × (ending ≡ endings.Loop fault))
     ⊎ ((path : Bor (List ℕ)) × ((error : Option ℤ) × (ending ≡ endings.Uncreated path error))))))
 
--- The line that tells at which address clients are listened for.
+-- The line that says at which address the server listens for clients.
 abbrev pub listening_line : SocketAddr → List ℕ
 listening_line address = codes "upsd: listening on " ++ socket_text address ++ 10 ∷ []
 
 -- The output took all of that line; or a beginning of it, and then a write failed; or nothing,
 -- memory being refused.
-abbrev pub TellsAddress : {W : Type 0} → (W → Option (List ℕ)) → (W → ℕ) → SocketAddr → W
+abbrev pub PrintsAddress : {W : Type 0} → (W → Option (List ℕ)) → (W → ℕ) → SocketAddr → W
     → Result (Unit {0}) Ending → W → Type 0
-TellsAddress contents failures address out (Ok done) after =
+PrintsAddress contents failures address out (Ok done) after =
     Written contents failures out (listening_line address) after
-TellsAddress contents failures address out (Err endings.Write) after =
+PrintsAddress contents failures address out (Err endings.Write) after =
     WriteFailed contents failures out (listening_line address) after
-TellsAddress contents failures address out (Err endings.Memory) after = after ≡ out
-TellsAddress contents failures address out result after = ⊥
+PrintsAddress contents failures address out (Err endings.Memory) after = after ≡ out
+PrintsAddress contents failures address out result after = ⊥
 
 -- The status with which the program ends.
 abbrev pub status_of : Result (Unit {0}) Ending → ℕ

@@ -19,16 +19,16 @@ abbrev pub ending_of_unread : Bor (List ℕ) → ReadFault → Ending
 ending_of_unread path faults.Memory = endings.Memory
 ending_of_unread path (faults.Failed error) = endings.Unread path error
 
--- The file of this path can't be read or opened, which the ending tells.
+-- The ending says that the file of this path can't be read or opened.
 abbrev pub CantBeRead : Readings → Bor (List ℕ) → Ending → Type 0
 CantBeRead gives path ending =
     (fault : ReadFault) × gives path.now (Err fault) × (ending ≡ ending_of_unread path fault)
 
--- A file is named, and can't be opened, which the ending tells.
+-- A file is named, and the ending says that it can't be opened.
 abbrev pub CantBeOpened : Option (Bor (List ℕ)) → Ending → Type 0
 CantBeOpened named ending =
     (path : Bor (List ℕ)) × (named ≡ Some path) × CantBeRead anything path ending
 
--- A file can't be made, which the ending tells.
+-- The ending says that a file can't be made.
 abbrev pub CantBeMade : Bor (List ℕ) → Ending → Type 0
 CantBeMade path ending = (error : Option ℤ) × (ending ≡ endings.Uncreated path error)

@@ -8,7 +8,7 @@ use Rattle.nutcore.specs.declared.event.Outcome.{Outcome}
 use Rattle.nutcore.specs.Server.{ServerState}
 use Rattle.nutcore.specs.Run.{Run}
 use Rattle.nutloop.specs.declared.fault.LoopFault.{LoopFault}
-use Rattle.nutloop.specs.Sockets.{Told}
+use Rattle.nutloop.specs.Sockets.{Reported}
 use Rattle.nutloop.specs.Moved.{SomeTurns, Turns}
 use Rattle.nutreplay.specs.Written.{IsReadAs, line_of}
 use Rattle.upsd.specs.declared.recorded.Recorded.{Recorded}
@@ -20,7 +20,7 @@ next_line list [] = []
 next_line list (event ∷ later) = line_of list event
 
 -- A record that has ended: its whole lines are read as a beginning of the events, and after them
--- stands at most a beginning of the next line.
+-- comes at most a beginning of the next line.
 pub record HasEnded (list : List Ups) (script : List ℕ) (events : List Event) : Type 0 where
   pub lines : List ℕ
   pub part : List ℕ
@@ -75,12 +75,12 @@ pub record WritesAll {W : Type 0} (contents : W → Option (List ℕ)) (failures
       → Leaves contents failures old.left old.writer (string_bytes old.waiting) (not new.is_cut)
       new.writer
 
--- What the sockets tell, and what is recorded beside them.
-abbrev pub recorded : Told → (List Event → Type 0) → Told
-recorded told records = record told { records = records }
+-- What the sockets report, and what is recorded beside them.
+abbrev pub recorded : Reported → (List Event → Type 0) → Reported
+recorded log records = record log { records = records }
 
 -- Turns were made, and then what waits was written.
-abbrev pub ServesRecorded : {S W : Type 0} → (Recorded S W → Told) → (Recorded S W → ℕ)
+abbrev pub ServesRecorded : {S W : Type 0} → (Recorded S W → Reported) → (Recorded S W → ℕ)
     → (W → Option (List ℕ)) → (W → ℕ) → ServerState → Recorded S W → ServerState → Recorded S W
     → Type 0
 ServesRecorded {S} {W} calls failures contents failed old sockets new after =
@@ -94,7 +94,7 @@ IsFileOf list true script events = HasEnded list script events
 
 -- Over any turns from a recorder that has recorded no events, and then a write of what waits: the
 -- file is of the events of the turns.
-abbrev pub ARecordIsTheRun : {S W : Type 0} → (Recorded S W → Told) → (Recorded S W → ℕ)
+abbrev pub ARecordIsTheRun : {S W : Type 0} → (Recorded S W → Reported) → (Recorded S W → ℕ)
     → (W → Option (List ℕ)) → (W → ℕ) → Type 0
 ARecordIsTheRun {S} {W} calls failures contents failed =
     (old new : ServerState) (sockets after : Recorded S W) (last : Recorder W)

@@ -44,7 +44,8 @@ pub record Replays {W : Type 0} (contents : W → Option (List ℕ)) (failures :
   pub new_of : IsServerOf gives files MAX_AGE_DEFAULT server
   pub over : ReplaysOver contents failures gives server.state script old replayed new
 
--- The first of the files fails, the script last, or memory is refused, which the ending tells.
+-- The ending is about the first of the files that fails, the script last, or says that memory is
+-- refused.
 abbrev pub FailsBefore : Readings → Files → Bor (List ℕ) → Ending → Type 0
 FailsBefore gives files script ending = FirstFails gives files ending ⊎ ((ending ≡ endings.Memory)
     ⊎ ((c : Configuration) × AreMeant gives files c × CantBeRead gives script ending))

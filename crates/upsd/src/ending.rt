@@ -1,6 +1,6 @@
 //! Why the program ends, and with which status.
 ghost use Rattle.std.specs.Prelude.{◌≡◌, MatchResult, Ok, Err};
-ghost use Rattle.upsd.specs.Ending.{IsToldOf, ending_of_replay, status_of};
+ghost use Rattle.upsd.specs.Ending.{EndsByFault, ending_of_replay, status_of};
 
 use nutloop::LoopFault;
 use nutreplay::ReplayFault;
@@ -18,7 +18,7 @@ pub const FAULT: u8 = 1;
 /// The status of a fault of the command's words.
 pub const WORD_FAULT: u8 = 2;
 
-/// Why the program isn't done. A path is told as it was typed. An error is the system's number.
+/// Why the program isn't done. A path is as it was typed. An error is the system's number.
 #[derive(Clone, Copy, Debug, Error)]
 pub enum Ending<'a> {
     /// One of the words isn't what it has to be: the address, or one that isn't UTF-8.
@@ -52,7 +52,7 @@ pub enum Ending<'a> {
 
 /// How the program ends where the configuration file is refused so.
 pub fn ending_of_file(path: &str, fault: ConfFault) -> Ending<'_>
-    ensures { IsToldOf path.entry fault result }
+    ensures { EndsByFault path.entry fault result }
 {
     match fault.cause {
         Cause::Memory => Ending::Memory,
@@ -85,8 +85,9 @@ pub fn status_of(ended: &Result<(), Ending<'_>>) -> u8
     }
 }
 
-/// Tells on standard error why the program isn't done, and on a second line the reason, where the first one has none.
-pub fn tell(rt: &HostRuntime, ending: &Ending<'_>) {
+/// Prints on standard error why the program isn't done, and on a second line the reason, where the
+/// first one has none.
+pub fn print_ending(rt: &HostRuntime, ending: &Ending<'_>) {
     let _ = eprintln!(rt; "upsd: {ending}");
     match *ending {
         Ending::BadArgument(Some(word)) => {
@@ -101,7 +102,7 @@ pub fn tell(rt: &HostRuntime, ending: &Ending<'_>) {
     }
 }
 
-/// Tells the system's error of a file or an address, if it has one.
+/// Prints the system's error of a file or an address, if it has one.
 fn explain<D: fmt::Display>(rt: &HostRuntime, of: &D, error: Option<i32>) {
     if let Some(number) = error {
         let error = io::Error::from_raw_os_error(number);

@@ -83,7 +83,7 @@ fn configuration_in<'a, R: FileReader>(
     })
 }
 
-/// The UPSs that the file of this path means. Without a file `su` alone.
+/// The UPSs that the file of this path means. Without a file only `su`.
 fn list_in<'a, R: FileReader>(
     alloc: Global,
     reader: &R,

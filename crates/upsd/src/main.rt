@@ -1,4 +1,5 @@
-//! upsd: a server that publishes the state of UPSs, as their drivers report it, on the network (RFC 9271).
+//! upsd: a server that publishes the state of UPSs, as their drivers report it, on the network (RFC
+//! 9271).
 #![tactic(auto)]
 
 ghost use Rattle.std.specs.Prelude.{◌≡◌, Err, IfOk, None, map, string_bytes, unwrap_or};
@@ -20,7 +21,7 @@ mod serve;
 mod task;
 mod warnings;
 
-use crate::ending::{Ending, status_of, tell};
+use crate::ending::{Ending, print_ending, status_of};
 use crate::replaying::replay_files;
 use crate::serve::serve_files;
 use crate::task::{DEFAULT_ADDRESS, RECORD_MIB_MOST, Task, task_of};
@@ -153,12 +154,12 @@ fn run<'a>(rt: &HostRuntime, matches: &ArgMatches<'a>) -> Result<(), Ending<'a>>
     }
 }
 
-/// Ends the program, and tells why where it isn't done.
+/// Ends the program, and prints why where it isn't done.
 fn finish(rt: &HostRuntime, ended: &Result<(), Ending<'_>>) -> ExitCode
     ensures { exit_status result ≡ status_of ended.now }
 {
     if let Err(ending) = ended {
-        tell(rt, ending);
+        print_ending(rt, ending);
     }
     ExitCode::from(status_of(ended))
 }

@@ -76,14 +76,14 @@ fn ending_of_unread(path: &str, fault: ReadFault) -> Ending<'_>
     }
 }
 
-/// Opens the file of this path, which is read later; or tells how the program ends without it.
+/// Opens the file of this path, which is read later. The fault is how the program ends without it.
 pub fn open<'a>(rt: &HostRuntime, path: &'a str) -> Result<File, Ending<'a>>
     ensures { IfErr result (CantBeRead anything path.entry) }
 {
     fs::open(rt, path).map_err(|error| ending_of_unread(path, fault_of(&error)))
 }
 
-/// Creates the file of this path, which must not exist, readable by its owner alone.
+/// Creates the file of this path, which must not exist, readable only by its owner.
 pub fn create<'a>(rt: &HostRuntime, path: &'a str) -> Result<File, Ending<'a>>
     ensures { IfErr result (CantBeMade path.entry) }
 {

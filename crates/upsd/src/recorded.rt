@@ -2,7 +2,7 @@
 ghost use Rattle.std.specs.Prelude.{◌≡◌, is_some, List, ℕ, Some, []};
 ghost use Rattle.nutcore.specs.declared.event.Event.{Event};
 ghost use Rattle.nutio.specs.Ends.{IsCounted};
-ghost use Rattle.nutloop.specs.Sockets.{Logs, came_from};
+ghost use Rattle.nutloop.specs.Sockets.{ReportsCall, came_from};
 ghost use Rattle.nutloop.specs.declared.sockets.Call.TheVariants.{Readied};
 ghost use Rattle.nutreplay.specs.Written.{IsReadAs};
 ghost use Rattle.upsd.specs.Recorded.{Leaves, Records, RecordsNext, WritesAll, recorded};
@@ -123,7 +123,7 @@ impl<S: Sockets, W: Sink + Drop> Sockets for Recorded<S, W> {
 
     /// The lines that wait are written before it may wait.
     fn look(&mut self, server: &Server) -> Result<Ready, Broken>
-        ensures told { Logs
+        ensures reported { ReportsCall
             (recorded (S.calls self.old.sockets) (Records W.contents self.old.recorder))
             (recorded (S.calls self.new.sockets) (Records W.contents self.new.recorder))
             Readied result }

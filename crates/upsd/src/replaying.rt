@@ -13,8 +13,8 @@ use nutio::Sink;
 use nutreplay::replay;
 use std::alloc::Global;
 
-/// `upsd replay`: replays the script of the file over the UPSs, users and descriptions of theirs. The caller is shown
-/// what they mean before the script is read.
+/// `upsd replay`: replays the script of the file over the UPSs, users and descriptions of theirs.
+/// The caller is shown what they mean before the script is read.
 ///
 /// # Errors
 ///

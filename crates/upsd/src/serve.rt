@@ -5,7 +5,7 @@ ghost use Rattle.nutloop.specs.declared.fault.LoopFault.{LoopFault};
 ghost use Rattle.nutloop.specs.Moved.{SomeTurns};
 ghost use Rattle.nutloop.specs.Serving.{IsOneRun, TurnsUpTo};
 ghost use Rattle.upsd.specs.Configuration.{FirstFails};
-ghost use Rattle.upsd.specs.Ending.{IsEndOfServing, TellsAddress};
+ghost use Rattle.upsd.specs.Ending.{IsEndOfServing, PrintsAddress};
 ghost use Rattle.upsd.specs.Reading.{CantBeMade, CantBeOpened, anything};
 ghost use Rattle.upsd.specs.Recorded.{ServesRecorded};
 
@@ -152,14 +152,14 @@ fn serve_over<'a, S: Served<File>>(
     let journal = Journal::new(rt.alloc(), service.priorities, service.max_age);
     let mut journal = journal.map_err(|_| Ending::Memory)?;
     warn(rt, files, server.ups(), server.users());
-    match tell_bound(rt, address, sockets.shown().0.local_addr()) {
+    match print_bound(rt, address, sockets.shown().0.local_addr()) {
         Ok(()) => go_round(rt, server, sockets, &mut journal),
         Err(ending) => Err(ending),
     }
 }
 
 /// Prints the address at which clients are listened for, if it is known.
-fn tell_bound<'a>(
+fn print_bound<'a>(
     rt: &HostRuntime,
     address: SocketAddr,
     bound: io::Result<SocketAddr>,
@@ -168,7 +168,7 @@ fn tell_bound<'a>(
 {
     let mut out = CountedWriter::new(io::writer(rt));
     match bound {
-        Ok(bound) => tell_address(rt.alloc(), &mut out, bound),
+        Ok(bound) => print_address(rt.alloc(), &mut out, bound),
         Err(error) => Err(ending_of_listening(address, &error)),
     }
 }
@@ -199,12 +199,12 @@ fn go_round<'a, S: Served<File>>(
 }
 
 /// Prints that clients are listened for at the address.
-fn tell_address<'a, W: Sink>(
+fn print_address<'a, W: Sink>(
     alloc: Global,
     out: &mut W,
     address: SocketAddr,
 ) -> Result<(), Ending<'a>>
-    ensures { TellsAddress W.contents W.failures address out.old result out.new }
+    ensures { PrintsAddress W.contents W.failures address out.old result out.new }
 {
     let line = format!(in alloc; "upsd: listening on {address}\n").map_err(|_| Ending::Memory)?;
     match send(out, line.as_bytes()) {

@@ -38,7 +38,8 @@ pub enum Task<'a> {
     Replay(Files<'a>, &'a str),
 }
 
-/// What a subcommand with these words asks for, or `None` where one of them isn't what it has to be.
+/// What a subcommand with these words asks for, or `None` where one of them isn't what it has to
+/// be.
 pub fn task_of<'a>(name: &str, found: &ArgMatches<'a>) -> Option<Task<'a>>
     ensures serve { name.now ≡ codes "serve" → MatchOption result
         ((service : Service) → ¬ (IsServiceIn found.now service)) (IsServing found.now) }

@@ -1,4 +1,5 @@
-//! What is dangerous or missing in the files, though lawful. The program warns of it where serving begins.
+//! What is dangerous or missing in the files, though lawful. The program warns of it where serving
+//! begins.
 
 use crate::files::Files;
 use nutcore::{UpsId, UpsList, Users};
@@ -42,13 +43,13 @@ pub fn warn(rt: &HostRuntime, files: Files<'_>, list: &UpsList, users: &Users) {
 /// Warns of a user. The passwords of the example are those of examples/upsd.users.
 fn warn_of_user(rt: &HostRuntime, path: &str, user: &User) {
     let (name, password) = (user.name().escape_ascii(), user.password());
-    let tell = |is_so, danger: &str| warn_if(rt, is_so, path, &format_args!("[{name}]: {danger}"));
+    let note = |is_so, danger: &str| warn_if(rt, is_so, path, &format_args!("[{name}]: {danger}"));
     let known = matches!(password, Some(b"change-me" | b"change-me-too"));
-    tell(known, "a password of the example, which everybody knows");
+    note(known, "a password of the example, which everybody knows");
     let small = user.grants().iter().any(is_small_all);
-    tell(small, "only ALL grants every command");
+    note(small, "only ALL grants every command");
     let unset = password.is_none();
-    tell(unset, "a user without a password, who may do nothing");
+    note(unset, "a user without a password, who may do nothing");
 }
 
 fn warn_if<D: Display>(rt: &HostRuntime, is_so: bool, path: &str, warning: &D) {

@@ -8,8 +8,8 @@ use std::io;
 use std::io::{ErrorKind, Read};
 use std::net::TcpStream;
 
-/// Connects as upsc does and prints the UPS's variables. Whether it was answered: the server refuses it as long as the
-/// driver hasn't told all.
+/// Connects as upsc does and prints the UPS's variables. Answers whether it got them: the server
+/// refuses it until the driver has reported all.
 pub fn print_variables(rt: &HostRuntime, served: &mut Served<'_>) -> Result<bool> {
     let ups = format!(in rt.alloc(); "su@127.0.0.1:{}", served.port()?)?;
     let job = Job::read(&Given::Variables(ups.as_str())).ok_or(ClientFault::BadTarget)?;

@@ -13,7 +13,7 @@ DATAOK
 /// How many bytes are read at once.
 const PIECE: usize = 64;
 
-/// A driver, the server that is connected to it, what it has heard and what it is still to tell.
+/// A driver, the server that is connected to it, what it has heard and what it still has to report.
 #[derive(Drop)]
 pub struct Driver {
     listener: UnixListener,
@@ -35,12 +35,12 @@ impl Driver {
         })
     }
 
-    /// Lets the server in, hears what it says, answers a line, and tells what is owed.
+    /// Lets the server in, hears what it says, answers a line, and reports what is owed.
     pub fn step(&mut self) -> io::Result<()> {
         self.let_in()?;
         self.hear()?;
         self.answer()?;
-        self.tell()
+        self.report()
     }
 
     fn let_in(&mut self) -> io::Result<()> {
@@ -81,7 +81,7 @@ impl Driver {
         Ok(())
     }
 
-    fn tell(&mut self) -> io::Result<()> {
+    fn report(&mut self) -> io::Result<()> {
         let Some(server) = &mut self.server else {
             return Ok(());
         };
@@ -107,7 +107,7 @@ fn answer_to(line: &[u8]) -> &'static [u8] {
     }
 }
 
-/// A call that would wait is tried again later, and every other error stands.
+/// A call that would wait is tried again later. Every other error is returned.
 fn unless_later(error: io::Error) -> io::Result<()> {
     match error.kind() {
         ErrorKind::WouldBlock => Ok(()),

@@ -58,7 +58,7 @@ impl<'a> Served<'a> {
     }
 }
 
-/// A server of the UPS `su` alone, whose driver has the socket of this path.
+/// A server of only the UPS `su`, whose driver has the socket of this path.
 fn server_of(alloc: Global, path: &str) -> Result<Server> {
     let file = format!(in alloc; "[su]\nsocket = {path}\n")?;
     let list = UpsList::read(alloc, file.as_bytes())?;

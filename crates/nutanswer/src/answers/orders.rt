@@ -83,8 +83,8 @@ impl<P: Peers> View<'_, P> {
     }
 }
 
-/// The OK of a command by which the driver of this UPS is owed this line. Where the order is tracked, the answer names
-/// its id, and is made after the line.
+/// The OK of a command by which the driver of this UPS is owed this line. Where the order is
+/// tracked, the answer names its id, and is made after the line.
 fn ordered<'a>(u: UpsId, id: Option<u128>, line: &'a mut Line) -> Reply<'a>
     requires { length line.old.items ≤ ORDER_LINE_LIMIT }
     ensures { CarriesAnswer (Ok (one_line (ok_words id) (order u line.old.items id))) result }

@@ -1,5 +1,5 @@
-//! The commands of sessions: who asks, what it is logged in to, the forced shutdown (RFC 9271), and whether its orders are
-//! tracked.
+//! The commands of sessions: who asks, what it is logged in to, the forced shutdown (RFC 9271), and
+//! whether its orders are tracked.
 ghost use Rattle.std.specs.Prelude.{Ok};
 ghost use Rattle.nutanswer.specs.View.{Seen, asker_seen};
 ghost use Rattle.nutanswer.specs.Answer.{answer_to, ok};

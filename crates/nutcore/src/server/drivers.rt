@@ -6,8 +6,8 @@ ghost use Rattle.nutcore.specs.Server.{ups_at, with_tracking};
 ghost use Rattle.nutcore.specs.Headline.{IsLawful};
 ghost use Rattle.nutcore.specs.Ups.{after_tick, fault_of, is_refused};
 ghost use Rattle.nutcore.specs.Reports.{with_end, is_unawaited};
-ghost use Rattle.nutdriver.specs.Report.{HasLawfulNumber, end_told};
-ghost use Rattle.nutcore.specs.Promises.{OfUps, MayChangeUps, KeepsUpsSound, ChangesUps, IsNotConnected, ExecutesDriverLine, ReadsDriverLine, IsStopped, IsTold, IsFront, front_or};
+ghost use Rattle.nutdriver.specs.Report.{HasLawfulNumber, reported_end};
+ghost use Rattle.nutcore.specs.Promises.{OfUps, MayChangeUps, KeepsUpsSound, ChangesUps, IsNotConnected, ExecutesDriverLine, ReadsDriverLine, IsStopped, HasReported, IsFront, front_or};
 ghost use Rattle.nutcore.specs.Calls.{is_connected};
 ghost use Rattle.nutcore.specs.declared.event.Fault.TheVariants.{NoSuchUps};
 
@@ -15,7 +15,7 @@ use super::Server;
 use crate::event::Fault;
 use crate::ups::Ups;
 use nutdriver::laws::{
-    each_line_keeps_the_tree_sound, lawful_lines_keep_trees_sound, told_numbers_are_lawful,
+    each_line_keeps_the_tree_sound, lawful_lines_keep_trees_sound, reported_numbers_are_lawful,
 };
 use nutdriver::{DriverFault, LineOutcome};
 use nutusers::UpsId;
@@ -89,7 +89,7 @@ impl Server {
     {
         lawful_lines_keep_trees_sound();
         each_line_keeps_the_tree_sound();
-        told_numbers_are_lawful();
+        reported_numbers_are_lawful();
         let moment = self.moment;
         let outcome = self.with_ups(u, |ups| ups.execute(moment, piece, length))?;
         let is_refused = self.settle(u, outcome);
@@ -100,14 +100,15 @@ impl Server {
         Ok(())
     }
 
-    /// Settles the order on which a line of the driver that came to this reports, and tells whether
-    /// the line is refused: so is a report on an order that isn't awaited.
+    /// Settles the order on which a line of the driver that came to this reports. The answer is
+    /// whether the line is refused: so is a report on an order that isn't awaited.
     fn settle(&mut self, u: UpsId, outcome: LineOutcome) -> bool
         requires { HasLawfulNumber outcome }
         ensures answer { result
-            ≡ is_refused (is_unawaited u.place (end_told outcome) self.old.state.tracking) outcome }
+            ≡ is_refused
+            (is_unawaited u.place (reported_end outcome) self.old.state.tracking) outcome }
         ensures after { self.new.state ≡ with_tracking
-            (with_end u.place (end_told outcome) self.old.state.tracking) self.old.state }
+            (with_end u.place (reported_end outcome) self.old.state.tracking) self.old.state }
         ensures cost { self.new.cost ≡ self.old.cost }
         ensures notes { self.new.notes ≡ self.old.notes }
     {
@@ -120,9 +121,9 @@ impl Server {
         }
     }
 
-    /// Does what the next line of the driver says, before which so many were done, and tells how
-    /// many bytes of the piece it takes. It isn't copied where it stands in the piece. Where none
-    /// is whole, all of the piece is held.
+    /// Does what the next line of the driver says, before which so many were done. The answer is
+    /// how many bytes of the piece it takes. A line that is whole in the piece isn't copied. Where
+    /// none is whole, all of the piece is held.
     ///
     /// # Errors
     ///
@@ -177,7 +178,7 @@ impl Server {
         }
     }
 
-    /// Does what the lines of the driver say, as far as they came. Where 2,048 bytes stand without
+    /// Does what the lines of the driver say, as far as they came. Where 2,048 bytes come without
     /// an LF, or memory is refused, the driver is lost, and the rest is dropped.
     ///
     /// # Errors
@@ -185,7 +186,7 @@ impl Server {
     /// `LineTooLong`, and `Memory` with how many lines of the call were done.
     pub(super) fn feed_driver(&mut self, u: UpsId, piece: &[u8]) -> Result<(), Fault>
         requires connected { option_map is_connected (ups_at u.place self.old.state) ≡ Some true }
-        ensures told { OfUps u self.old.state (λ x. IsTold u (x.unfinished ++ piece.now)
+        ensures reported { OfUps u self.old.state (λ x. HasReported u (x.unfinished ++ piece.now)
             self.old.state result self.new.state) }
         ensures cost { self.new.cost ≡ self.old.cost }
         ensures notes { self.new.notes ≡ self.old.notes }

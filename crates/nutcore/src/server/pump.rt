@@ -30,8 +30,8 @@ use nutusers::UpsId;
 use std::alloc::AllocError;
 
 impl Server {
-    /// Executes the next line, which ends there. Without memory nothing changes. The view is for this line alone, so a session
-    /// without a line doesn't pay for one.
+    /// Executes the next line, which ends there. Without memory nothing changes. The view is only
+    /// for this line, so a session without a line doesn't pay for one.
     #[inline(never)]
     fn execute(&mut self, c: ClientId, place: usize, end: usize) -> Result<(), AllocError>
         requires at { IsAt c place self.old.state.sessions }
@@ -67,8 +67,8 @@ impl Server {
         Ok(())
     }
 
-    /// Executes the session's lines, as long as they may be executed. A session that holds too long a line then is told
-    /// so, and begins to end.
+    /// Executes the session's lines, as long as they may be executed. A session that holds too long
+    /// a line then is sent `ERR TOO-LONG`, and begins to end.
     fn pump(&mut self, c: ClientId, place: usize) -> Result<(), Fault>
         requires at { IsAt c place self.old.state.sessions }
         requires short { length (held_of (session c self.old.state)) ≤ HELD_LIMIT }
@@ -90,8 +90,8 @@ impl Server {
         session.refuse_overlong(&mut self.scratch.renders, &mut self.notes)
     }
 
-    /// Executes the session's lines, and counts as placed what is offered then after so many bytes, which were offered
-    /// before.
+    /// Executes the session's lines, and counts as placed what is offered then after so many bytes,
+    /// which were offered before.
     pub(super) fn serve(&mut self, c: ClientId, place: usize, kept: usize) -> Result<(), Fault>
         requires at { IsAt c place self.old.state.sessions }
         requires short { length (held_of (session c self.old.state)) ≤ HELD_LIMIT }
@@ -110,8 +110,8 @@ impl Server {
     }
 }
 
-/// Does what an answer changes of the UPSs, and of the ids and the tracked orders. Of a listing of clients it puts them
-/// together.
+/// Does what an answer changes of the UPSs, and of the ids and the tracked orders. Of a listing of
+/// clients it puts them together.
 fn carry_out(
     reply: &Reply<'_>,
     upses: &mut Vec<Ups>,
@@ -140,7 +140,8 @@ fn carry_out(
     }
 }
 
-/// Puts together the addresses of the sessions that are logged in to the UPS, in the order of opening.
+/// Puts together the addresses of the sessions that are logged in to the UPS, in the order of
+/// opening.
 #[tactic(auto, using(crate::proofs::LoginCount::listing))]
 fn list_clients(sessions: &Vec<Session>, u: UpsId, clients: &mut Clients)
     requires { length sessions.now.items ≤ SESSION_LIMIT }

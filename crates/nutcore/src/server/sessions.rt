@@ -1,4 +1,4 @@
-//! The table of sessions: where each stands.
+//! The table of sessions: where each one is.
 ghost use Rattle.std.specs.Prelude.{◌≡◌, MatchResult, Some, None};
 ghost use Rattle.nutcore.specs.Server.{session};
 ghost use Rattle.nutcore.specs.Headline.{IsLawful};
@@ -10,7 +10,7 @@ use crate::event::{ClientId, Fault};
 use crate::session::Session;
 
 impl Server {
-    /// Where the client's session stands.
+    /// Where the client's session is.
     ///
     /// # Errors
     ///

@@ -14,7 +14,7 @@ use crate::note::{Look, Notes, data_note};
 use crate::ups::Ups;
 use nutusers::UpsId;
 
-/// How a client stands with the server, for whoever hands it what the client's socket gives.
+/// The status of a client, for whoever hands the server what the client's socket gives.
 #[derive(Clone, Copy, Default)]
 pub struct Standing {
     /// How many bytes it is offered.

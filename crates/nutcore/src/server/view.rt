@@ -13,7 +13,7 @@ use nutusers::UpsId;
 use nutwords::Line;
 use std::alloc::AllocError;
 
-/// The peers of a server. It borrows those parts alone, so that an answer can be made in another.
+/// The peers of a server. It borrows only those parts, so that an answer can be made in another.
 #[derive(Drop)]
 pub(super) struct ServerPeers<'a> {
     pub(super) upses: &'a Vec<Ups>,
@@ -44,8 +44,8 @@ impl<'a> Peers for ServerPeers<'a> {
     }
 }
 
-/// What answers a line that was read so, of the session that asks. The line of the answer is made in `lent`.
-/// Memory is asked for by a listing alone.
+/// What answers a line that was read so, of the session that asks. The line of the answer is made
+/// in `lent`. Only a listing asks for memory.
 pub(super) fn reply_to<'a>(
     view: &View<'_, ServerPeers<'_>>,
     asker: Asker<'_>,

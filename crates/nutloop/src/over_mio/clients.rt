@@ -14,7 +14,7 @@ use nutcore::{ClientId, HELD_LIMIT, SESSION_LIMIT, Standing};
 /// The clients by their places. A client keeps its place up to its end.
 pub(super) type Clients = ArrayVec<Option<Client>, SESSION_LIMIT>;
 
-/// A client: its session, its socket, and how the session stood after the client's last turn.
+/// A client: its session, its socket, and the status of the session after the client's last turn.
 #[derive(Drop)]
 pub(super) struct Client {
     pub id: ClientId,
@@ -23,8 +23,8 @@ pub(super) struct Client {
 }
 
 impl Client {
-    /// Whether it may be read or written to. While it is owed something it is read where its session has room, unless it
-    /// has ended. One that is finished is written to, which closes it.
+    /// Whether it may be read or written to. While it is owed something it is read where its
+    /// session has room, unless it has ended. One that is finished is written to, which closes it.
     pub fn may(&self, way: Way) -> bool
         ensures { result ≡ client_may way self.now }
     {
@@ -88,7 +88,8 @@ pub(super) fn take_in(clients: &mut Clients, registry: &Registry, id: ClientId, 
     }
 }
 
-/// A client whose socket is registered for this place. Where that fails it is read at once, and so closed.
+/// A client whose socket is registered for this place. Where that fails it is read at once, and so
+/// closed.
 fn registered(registry: &Registry, id: ClientId, mut stream: TcpStream, place: usize) -> Client
     requires { place < SESSION_LIMIT }
 {

@@ -18,8 +18,8 @@ pub(super) const CLOSING_TICKS: u64 = 2;
 /// The most bytes that are read of such a connection between two looks.
 const PIECE: usize = 4096;
 
-/// A connection whose session has ended. What the client still sends is read and dropped, since a connection that is closed
-/// with unread input is reset, and the client loses its last answer.
+/// A connection whose session has ended. What the client still sends is read and dropped, since a
+/// connection that is closed with unread input is reset, and the client loses its last answer.
 #[derive(Drop)]
 pub(super) struct Closing {
     pub socket: Socket<TcpStream>,
@@ -40,13 +40,15 @@ impl Closing {
         }
     }
 
-    /// Reads a piece, where there may be one. Whether the connection is read on: up to its second and its end.
+    /// Reads a piece, where there may be one. Whether the connection is read on: up to its second
+    /// and its end.
     pub fn goes_on(&mut self, second: u64) -> bool {
         second < self.until && !(self.socket.readable && self.has_ended())
     }
 }
 
-/// The connection sends nothing more, and is read on up to this second. Where it has ended it is closed.
+/// The connection sends nothing more, and is read on up to this second. Where it has ended it is
+/// closed.
 pub(super) fn close(
     closing: &mut Vec<Closing>,
     registry: &Registry,

@@ -21,8 +21,9 @@ pub(super) struct Door {
     pub newcomer: Option<TcpStream>,
 }
 
-/// Whether newcomers may be waiting after this error of `accept`. A newcomer that left gives ECONNABORTED (accept(2)). All
-/// errors pass by themselves but one: it is tried again at the next event or tick.
+/// Whether newcomers may be waiting after this error of `accept`. A newcomer that left gives
+/// ECONNABORTED (accept(2)). All errors pass by themselves but one: it is tried again at the next
+/// event or tick.
 ///
 /// # Errors
 ///

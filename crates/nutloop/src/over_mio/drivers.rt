@@ -17,10 +17,12 @@ use std::net::Net;
 /// The drivers by the places of their UPSs.
 pub(super) type Drivers = ArrayVec<Driver, UPS_LIMIT>;
 
-/// The system's number of an error that has none: EINVAL, which it gives for a path that no socket can have.
+/// The system's number of an error that has none: EINVAL, which it gives for a path that no socket
+/// can have.
 const INVALID_ARGUMENT: i32 = 22;
 
-/// The driver of a UPS: its socket where it is connected, and else the number of the error by which the last try failed.
+/// The driver of a UPS: its socket where it is connected, and else the number of the error by which
+/// the last try failed.
 #[derive(Default, Drop)]
 pub(super) struct Driver {
     pub socket: Option<Socket<UnixStream>>,
@@ -72,8 +74,8 @@ fn connected<R: Net>(
     Ok(Socket::new(stream))
 }
 
-/// The first driver from this place on that may be read or written to. The first turn of a driver reports to the server
-/// that it is connected, and counts as a read.
+/// The first driver from this place on that may be read or written to. The first turn of a driver
+/// reports to the server that it is connected, and counts as a read.
 pub(super) fn driver_from(
     drivers: &[Driver],
     from: usize,

@@ -9,8 +9,8 @@ use super::drivers::{Driver, driver_from};
 use nutcore::{SESSION_LIMIT, Server};
 use nutusers::UPS_LIMIT;
 
-/// After so many turns the system is asked once the pass is over. A poll after each pass costs a lone client's listing two
-/// calls of the system for each 8,192 bytes.
+/// After so many turns the system is asked once the pass is over. A poll after each pass costs a
+/// lone client's listing two calls of the system for each 8,192 bytes.
 pub(crate) const TURNS_PER_LOOK: u32 = 16;
 
 /// Which way a turn goes.
@@ -28,7 +28,8 @@ pub(super) enum Stop {
     Client(usize, Way),
 }
 
-/// The number of a pass's first read of a driver. The listener, which is visited first, has the one before it.
+/// The number of a pass's first read of a driver. The listener, which is visited first, has the one
+/// before it.
 const DRIVER_READS: usize = 1;
 
 /// The number of the first write to a driver.
@@ -37,7 +38,8 @@ const DRIVER_WRITES: usize = DRIVER_READS + UPS_LIMIT;
 /// The number of the first read of a client.
 const CLIENT_READS: usize = DRIVER_WRITES + UPS_LIMIT;
 
-/// The number of the first write to a client. All clients are read before: each write wakes its client.
+/// The number of the first write to a client. All clients are read before: each write wakes its
+/// client.
 const CLIENT_WRITES: usize = CLIENT_READS + SESSION_LIMIT;
 
 /// How many stops a pass has.

@@ -18,7 +18,8 @@ pub(super) struct Socket<S> {
     pub stream: S,
     pub readable: bool,
     pub writable: bool,
-    /// The peer sends no more, or its connection is broken. A short read doesn't mean that the socket is empty then.
+    /// The peer sends no more, or its connection is broken. A short read doesn't mean that the
+    /// socket is empty then.
     pub ended: bool,
 }
 
@@ -40,7 +41,8 @@ impl<S: Read + Write> Socket<S> {
         self.writable |= event.is_writable() || event.is_write_closed();
     }
 
-    /// Reads into the front of the buffer, which isn't empty. While something is owed to the peer its end comes later.
+    /// Reads into the front of the buffer, which isn't empty. While something is owed to the peer
+    /// its end comes later.
     pub fn read(&mut self, into: &mut [u8], is_owed: bool) -> Result<Got, Broken>
         ensures bound { AtMost result into.new }
     {

@@ -15,7 +15,8 @@ const FIRST_CLIENT: usize = FIRST_DRIVER + UPS_LIMIT;
 /// The token of all connections whose sessions have ended, after those of all clients.
 const CLOSING: usize = FIRST_CLIENT + SESSION_LIMIT;
 
-/// What an event is about: the listener, a driver or a client by its place, or the connections whose sessions have ended.
+/// What an event is about: the listener, a driver or a client by its place, or the connections
+/// whose sessions have ended.
 #[derive(Clone, Copy)]
 pub(super) enum Source {
     Listener,

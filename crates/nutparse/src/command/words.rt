@@ -1,5 +1,6 @@
-//! The words of a command that name something or are a value. Each borrows its spelling from the line, and is read where the
-//! command's row needs it: a command is small, whatever its words may be read as.
+//! The words of a command that name something or are a value. Each borrows its spelling from the
+//! line, and is read where the command's row needs it: a command is small, whatever its words may
+//! be read as.
 ghost use Rattle.std.specs.Prelude.{◌≡◌, ◌≤◌, ℕ, List, Option, IfSome, length};
 ghost use Rattle.std.specs.Option.{option_copied};
 ghost use Rattle.std.specs.Result.{result_ok};

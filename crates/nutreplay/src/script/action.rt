@@ -18,7 +18,8 @@ const UNLISTED: u8 = 255;
 pub enum Action {
     /// This event happens.
     Happens(Event),
-    /// `took N all` and `driver-took U all`: a client or a driver takes what it is offered, as long as something is.
+    /// `took N all` and `driver-took U all`: a client or a driver takes what it is offered, as long
+    /// as something is.
     TookAll(Peer),
 }
 
@@ -211,7 +212,7 @@ fn split_at_space(line: &[u8]) -> Option<(&[u8], &[u8])>
     Some((&line[..i], &line[i + 1..]))
 }
 
-/// Where the first space stands.
+/// Where the first space is.
 fn space_in(line: &[u8]) -> Option<usize>
     ensures place { result ≡ position (λ b. b == 32) line.now }
     ensures within { IfSome result (λ i. i < length line.now) }

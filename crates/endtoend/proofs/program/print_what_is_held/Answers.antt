@@ -28,7 +28,7 @@ pub returns-clause-progress : goal.returns-clause-progress
 returns-clause-progress g c = λ s client words word id line progress more job is lawful at sent h.
     handed _ _ _ _ _ c.args.job.now _ _ _ _ _ c.run.ensures.printed
     (asks_tracked (ups_place_of words.now) (read_id word.now) id c.args.job.now job is)
-    (c.upsc_prints_how_far_an_order_has_come.ensures.told s client id word.now line progress more is lawful at sent) h
+    (c.upsc_prints_how_far_an_order_has_come.ensures.known s client id word.now line progress more is lawful at sent) h
 
 pub returns-clause-settings : goal.returns-clause-settings
 returns-clause-settings g c = λ s client words place line known more job at usable sent h.

@@ -13,7 +13,7 @@ taken [] old new takes = ap app_of (sym takes)
 taken ((rule, bond) ∷ rows) old new (arg, next, ((read, local), bonds), adds, more) =
     taken rows next new more ∙ ap (λ a. with_words a rows) (adds.shape local ∙ ap (with_rule (app_of old)) read)
 
--- a word, and those behind it
+-- a word, and those after it
 next_word : (words : List Word) (i : ℕ) (d : Word) (made arg : Arg) (old new end : Command) → i < length words
     → rule_of made ≡ rule_by_form (get_or words i d).name.now (get_or words i d).form
     → IsWord (rule_of made, bond_of (get_or words i d).bond) arg → AddsArg old arg new

@@ -26,13 +26,13 @@ returns-then-is_empty g c =
 pub returns-in-Ok-write : goal.returns-in-Ok-write
 returns-in-Ok-write g c =
     row g.S.Sockets.calls g.S.Sockets.failures (Write (Client c.args.c)) (took c.in-Ok-write.n) (writes (Client c.args.c) c.in-Ok.offered.now) (Took c.args.c c.in-Ok-write.n ∷ []) c.args.server.now.state c.args.sockets.now c.write.new.self c.took.new.self.state c.happens.new.self
-    (writes_all (Client c.args.c) c.in-Ok.offered.now (offered (session c.args.c c.args.server.now.state)) c.in-Ok.ensures.bytes.1 (sym c.is_empty.ensures ∙ c.if-is_empty.false)) refl c.in-Ok-write.ensures.bound c.in-Ok-write.ensures.told c.in-Ok-write.ensures.count
+    (writes_all (Client c.args.c) c.in-Ok.offered.now (offered (session c.args.c c.args.server.now.state)) c.in-Ok.ensures.bytes.1 (sym c.is_empty.ensures ∙ c.if-is_empty.false)) refl c.in-Ok-write.ensures.bound c.in-Ok-write.ensures.reported c.in-Ok-write.ensures.count
     (does_from g.S.Sockets.calls g.S.Sockets.failures (Took c.args.c c.in-Ok-write.n ∷ []) c.args.server.now.state c.offer.follows.lender-at-none.state c.write.new.self c.took.new.self.state c.happens.new.self (ap (λ (r : RunningServer). r.state) c.offer.follows.holds-at-none)
     (does_quietly g.S.Sockets.calls g.S.Sockets.failures (Took c.args.c c.in-Ok-write.n) (done c.took.result) c.offer.follows.lender-at-none.state c.write.new.self c.took.new.self.state c.happens.new.self
-    c.happens.ensures.told c.happens.ensures.count refl c.took.ensures.served.step))
+    c.happens.ensures.reported c.happens.ensures.count refl c.took.ensures.served.step))
 
 pub returns-in-Err : goal.returns-in-Err
 returns-in-Err g c =
     row g.S.Sockets.calls g.S.Sockets.failures (Write (Client c.args.c)) failed (writes (Client c.args.c) c.in-Ok.offered.now) (Close c.args.c ∷ []) c.args.server.now.state c.args.sockets.now c.write.new.self c.close.new.server.state c.close.new.sockets
-    (writes_all (Client c.args.c) c.in-Ok.offered.now (offered (session c.args.c c.args.server.now.state)) c.in-Ok.ensures.bytes.1 (sym c.is_empty.ensures ∙ c.if-is_empty.false)) refl tt c.in-Err.ensures.told c.in-Err.ensures.count
+    (writes_all (Client c.args.c) c.in-Ok.offered.now (offered (session c.args.c c.args.server.now.state)) c.in-Ok.ensures.bytes.1 (sym c.is_empty.ensures ∙ c.if-is_empty.false)) refl tt c.in-Err.ensures.reported c.in-Err.ensures.count
     (does_from g.S.Sockets.calls g.S.Sockets.failures (Close c.args.c ∷ []) c.args.server.now.state c.offer.follows.lender-at-none.state c.write.new.self c.close.new.server.state c.close.new.sockets (ap (λ (r : RunningServer). r.state) c.offer.follows.holds-at-none) c.close.ensures)

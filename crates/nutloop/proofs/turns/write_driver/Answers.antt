@@ -25,13 +25,13 @@ returns-then-is_empty g c =
 pub returns-in-Ok-write : goal.returns-in-Ok-write
 returns-in-Ok-write g c =
     row g.S.Sockets.calls g.S.Sockets.failures (Write (Driver c.args.u)) (took c.in-Ok-write.n) (writes (Driver c.args.u) c.in-Ok.owed.now) (DriverTook c.args.u c.in-Ok-write.n ∷ []) c.args.server.now.state c.args.sockets.now c.write.new.self c.driver_took.new.self.state c.happens.new.self
-    (writes_all (Driver c.args.u) c.in-Ok.owed.now (owed_to_driver c.args.u c.args.server.now.state) (owed_is c.in-Ok.owed.now (ups_at c.args.u.place c.args.server.now.state) c.in-Ok.ensures.bytes) (sym c.is_empty.ensures ∙ c.if-is_empty.false)) refl c.in-Ok-write.ensures.bound c.in-Ok-write.ensures.told c.in-Ok-write.ensures.count
+    (writes_all (Driver c.args.u) c.in-Ok.owed.now (owed_to_driver c.args.u c.args.server.now.state) (owed_is c.in-Ok.owed.now (ups_at c.args.u.place c.args.server.now.state) c.in-Ok.ensures.bytes) (sym c.is_empty.ensures ∙ c.if-is_empty.false)) refl c.in-Ok-write.ensures.bound c.in-Ok-write.ensures.reported c.in-Ok-write.ensures.count
     (does_from g.S.Sockets.calls g.S.Sockets.failures (DriverTook c.args.u c.in-Ok-write.n ∷ []) c.args.server.now.state c.driver_offer.follows.lender-at-none.state c.write.new.self c.driver_took.new.self.state c.happens.new.self (ap (λ (r : RunningServer). r.state) c.driver_offer.follows.holds-at-none)
     (does_quietly g.S.Sockets.calls g.S.Sockets.failures (DriverTook c.args.u c.in-Ok-write.n) (done c.driver_took.result) c.driver_offer.follows.lender-at-none.state c.write.new.self c.driver_took.new.self.state c.happens.new.self
-    c.happens.ensures.told c.happens.ensures.count refl c.driver_took.ensures.served.step))
+    c.happens.ensures.reported c.happens.ensures.count refl c.driver_took.ensures.served.step))
 
 pub returns-in-Err : goal.returns-in-Err
 returns-in-Err g c =
     row g.S.Sockets.calls g.S.Sockets.failures (Write (Driver c.args.u)) failed (writes (Driver c.args.u) c.in-Ok.owed.now) (DriverDown c.args.u ∷ []) c.args.server.now.state c.args.sockets.now c.write.new.self c.lose.new.server.state c.lose.new.sockets
-    (writes_all (Driver c.args.u) c.in-Ok.owed.now (owed_to_driver c.args.u c.args.server.now.state) (owed_is c.in-Ok.owed.now (ups_at c.args.u.place c.args.server.now.state) c.in-Ok.ensures.bytes) (sym c.is_empty.ensures ∙ c.if-is_empty.false)) refl tt c.in-Err.ensures.told c.in-Err.ensures.count
+    (writes_all (Driver c.args.u) c.in-Ok.owed.now (owed_to_driver c.args.u c.args.server.now.state) (owed_is c.in-Ok.owed.now (ups_at c.args.u.place c.args.server.now.state) c.in-Ok.ensures.bytes) (sym c.is_empty.ensures ∙ c.if-is_empty.false)) refl tt c.in-Err.ensures.reported c.in-Err.ensures.count
     (does_from g.S.Sockets.calls g.S.Sockets.failures (DriverDown c.args.u ∷ []) c.args.server.now.state c.driver_offer.follows.lender-at-none.state c.write.new.self c.lose.new.server.state c.lose.new.sockets (ap (λ (r : RunningServer). r.state) c.driver_offer.follows.holds-at-none) c.lose.ensures)

@@ -18,7 +18,7 @@ pub returns-clause-served : goal.returns-clause-served
 returns-clause-served c =
     served_from _ _ _ _ _ c.forget.ensures.state c.connected.ensures.lawful
     (subst (λ (z : ServerState). Step c.forget.new.self.state (DriverBytes c.args.u c.args.piece.now) (done c.feed_driver-result.result) z) (sym c.note_changes.ensures.state)
-    (bytes_fed c.forget.new.self.state c.feed_driver-result.new.self.state c.args.u c.args.piece.now c.feed_driver-result.result (is_there c.forget.new.self.state c.args.u true c.in_ok-connected.ensures.connected) c.feed_driver-result.ensures.told))
+    (bytes_fed c.forget.new.self.state c.feed_driver-result.new.self.state c.args.u c.args.piece.now c.feed_driver-result.result (is_there c.forget.new.self.state c.args.u true c.in_ok-connected.ensures.connected) c.feed_driver-result.ensures.reported))
 
 pub returns-in_err-connected-clause-notes : goal.returns-in_err-connected-clause-notes
 returns-in_err-connected-clause-notes c = nothing_changed c.args.u c.args.self.now.state c.forget.new.self.state c.forget.new.self.notes c.forget.ensures.state c.forget.ensures.notes

@@ -9,12 +9,12 @@ use Rattle.nutcore.specs.declared.event.Event.{Event}
 use Rattle.nutcore.specs.declared.event.Outcome.{Outcome}
 use Rattle.nutcore.specs.Server.{ServerState}
 use Rattle.nutcore.specs.Sound.{Each}
-use Rattle.nutcore.specs.DriverOrders.{Telling, dump_all, ping, order, text_of, connections}
-use Rattle.nutcore.specs.OrdersByRight.{all_told}
+use Rattle.nutcore.specs.DriverOrders.{ServerLine, dump_all, ping, order, text_of, connections}
+use Rattle.nutcore.specs.OrdersByRight.{all_given}
 
 -- It is `DUMPALL`, `PING`, `SET name "value"`, `INSTCMD name` or `INSTCMD name "value"`, of a
--- lawful name and a lawful value, and of a tracked order with `TRACKING` and its id behind it.
-pub data IsSpelled : Telling → Type 0 where
+-- lawful name and a lawful value, and of a tracked order followed by `TRACKING` and its id.
+pub data IsSpelled : ServerLine → Type 0 where
   asks_for_all : IsSpelled dump_all
   asks_whether_there : IsSpelled ping
   sets : (name value : List ℕ) (id : Option ℕ) → IsTrue (is_name name) → IsTrue (is_value value)
@@ -25,13 +25,13 @@ pub data IsSpelled : Telling → Type 0 where
       → IsTrue (is_value value) → IsSpelled (order (instcmd_line name (Some value) id))
 
 -- Its text is one line of at most 2,047 lawful bytes, none of them an LF, and its LF.
-pub record IsLineToDriver (told : Telling) : Type 0 where
-  pub spelled : IsSpelled told
-  pub whole : IsWholeLine (text_of told)
+pub record IsLineToDriver (line : ServerLine) : Type 0 where
+  pub spelled : IsSpelled line
+  pub whole : IsWholeLine (text_of line)
   pub one : split_line whole.line ≡ None
 
--- Whatever a run tells the driver of a UPS.
-abbrev pub EachTellingIsAWholeLine : Type 0
-EachTellingIsAWholeLine =
+-- All lines of a run to the driver of a UPS.
+abbrev pub EachLineToADriverIsWhole : Type 0
+EachLineToADriverIsWhole =
     (old : ServerState) (events : List Event) (outcomes : List Outcome) (u : UpsId)
-    → Each IsLineToDriver (all_told (connections u old events outcomes))
+    → Each IsLineToDriver (all_given (connections u old events outcomes))
