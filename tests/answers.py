@@ -86,6 +86,7 @@ class Ends:
         elif verb == "client":
             with contextlib.suppress(OSError):  # its session may have ended
                 self.clients[int(who) - 1].send(line)
+                self.control.ask(b"NETVER\n")  # by then it is read
                 taken(self.clients[int(who) - 1].wire, None, 0.2)
         elif verb == "id":
             with open(f"{self.folder}/ids", "ab") as out:

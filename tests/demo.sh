@@ -11,54 +11,59 @@ demo=
 trap '[[ -z $demo ]] || kill "$demo" 2>/dev/null || true; rm -r "$folder"' EXIT
 failed=0 checks=0
 fails() { printf 'demo: FAILED: %s\n' "$1"; failed=1; }
-# The rest of the words succeed within so many tenths of a second.
+# The rest of the words succeed within 30 seconds: on a machine that is busy with other work, what takes one may take ten.
 within() {
     checks=$((checks + 1))
-    for _ in $(seq "$1"); do
-        "${@:3}" && return
+    for _ in {1..300}; do
+        "${@:2}" && return
         sleep 0.1
     done
-    fails "$2"
+    fails "$1"
     cat "$folder/said"
 }
 # The demonstration shows this.
-shows() { within "$2" "no line $1" grep -qE "$1" "$folder/said"; }
+shows() { within "no line $1" grep -qE "$1" "$folder/said"; }
 # The command that was printed, as it stands there.
 printed() { sed -n "s/^ *\(crates.*$1.*\)\$/\1/p" "$folder/said"; }
-is_ok() { within 1 "$1" eval "[[ \$($2) == OK ]]"; }
+is_ok() {
+    checks=$((checks + 1))
+    [[ $(eval "$2") == OK ]] || fails "$1"
+}
 # A tracked order comes to this end.
 ends() {
     local id
     id=$(eval "$3") || true
-    within 50 "$1" eval "[[ \$(crates/upsc/out/upsc --tracked $id $ups) == '$2' ]]"
+    within "$1" eval "[[ \$(crates/upsc/out/upsc --tracked $id $ups) == '$2' ]]"
 }
 
 mkdir "$folder/room"
 : >"$folder/said"
 TMPDIR=$folder/room make -s demo >"$folder/said" 2>"$folder/told" &
 demo=$!
-shows '^ups\.status: OL$' 30
-shows '^battery\.charge: 100$' 1
-shows '^ups\.load: 2[0-9]$' 1
-shows 'upsrw.*OB LB' 10
+begun=$SECONDS
+shows '^ups\.status: OL$'
+((SECONDS - begun <= 3)) || fails 'data come late'
+shows '^battery\.charge: 100$'
+shows '^ups\.load: 2[0-9]$'
+shows 'upsrw.*OB LB'
 ups=$(sed -n 's/^\$ upsc //p' "$folder/said") upsrw="crates/upsrw/out/upsrw -u admin -p demo"
 # So that it need not wait until the battery is low.
 ends 'a charge that is set' SUCCESS "$upsrw --track -s battery.charge.low=90 $ups"
 is_ok 'the command that starts it' "$(printed test.failure.start)"
-shows '^ups\.status: OB DISCHRG +battery\.charge: ' 30
-shows '^ups\.status: OB DISCHRG LB +battery\.charge: (9|8)' 40
+shows '^ups\.status: OB DISCHRG +battery\.charge: '
+shows '^ups\.status: OB DISCHRG LB +battery\.charge: (9|8)'
 is_ok 'a status that is set' "$(printed upsrw)"
-shows '^ups\.status: OB LB +battery' 30
+shows '^ups\.status: OB LB +battery'
 ends 'a status that is none' 'FAILED 2' "$upsrw --track -s ups.status=OX $ups"
 ends 'the command that stops it' SUCCESS "$(printed test.failure.stop) --track"
-shows '^ups\.status: OL CHRG +battery' 30
-within 80 'the power is back' eval "tail -n 1 $folder/said | grep -qE '^ups\.status: OL +battery\.charge: 100\$'"
+shows '^ups\.status: OL CHRG +battery'
+within 'the power is back' eval "tail -n 1 $folder/said | grep -qE '^ups\.status: OL +battery\.charge: 100\$'"
 
 kill "$demo"
 wait "$demo" 2>/dev/null || true
 demo=
-within 30 'files stay' eval "[[ -z \$(ls $folder/room) ]]"
-within 30 'programs stay' eval "! grep -qs '$folder/roo[m]' /proc/[0-9]*/cmdline"
+within 'files stay' eval "[[ -z \$(ls $folder/room) ]]"
+within 'programs stay' eval "! grep -qs '$folder/roo[m]' /proc/[0-9]*/cmdline"
 # The journal has the orders, each once, and no value.
 ordered="upsd: demo: admin@127.0.0.1 ordered"
 orders='SET VAR battery.charge.low,INSTCMD test.failure.start,SET VAR ups.status,SET VAR ups.status,INSTCMD test.failure.stop'
@@ -67,10 +72,16 @@ grep -vE "^(upsd: demo: (driver connected|data good|status [A-Z ]+)|$ordered .*|
 
 # A driver that ends leaves its socket. The next one takes its place; no other one does while that lives.
 driver=(crates/demodriver/out/demodriver "$folder/driver")
-timeout 0.5 "${driver[@]}" >/dev/null || [[ -S $folder/driver ]] || fails 'a socket is left'
-"${driver[@]}" >"$folder/drove" &
-demo=$!
-within 30 'a socket that was left' grep -qs listening "$folder/drove"
-[[ $(timeout 5 "${driver[@]}" 2>&1) == *AddrInUse* ]] || fails 'a socket that is taken'
+drives() {
+    "${driver[@]}" >"$folder/$1" &
+    demo=$!
+    within "the $1 driver" grep -qs listening "$folder/$1"
+}
+drives first
+kill "$demo"
+wait "$demo" 2>/dev/null || true
+[[ -S $folder/driver ]] || fails 'a socket is left'
+drives second
+[[ $(timeout 30 "${driver[@]}" 2>&1) == *AddrInUse* ]] || fails 'a socket that is taken'
 ((failed == 0)) && echo "demo: ok: $checks checks"
 exit "$failed"

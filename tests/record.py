@@ -39,7 +39,7 @@ def drain(driver):
 
 def end(server, driver):
     """The server is killed once it has nothing to do. What the clients and the driver were sent, as `replay` prints it."""
-    time.sleep(0.3)
+    time.sleep(1)
     drain(driver)
     server.close()
     return b"".join(sent(f"client {number}", client.got) for number, client in enumerate(server.clients, 1)) + sent("driver su", driver.got)
@@ -66,7 +66,7 @@ def a_record_replays_to_the_same_bytes():
         drain(driver)
         driver.lose()
         driver.accept(TWO)
-        assert comes(lambda: good.ask(GET).startswith(b"VAR"), 10)
+        assert comes(lambda: good.ask(GET).startswith(b"VAR"))
         mon = server.client()
         assert mon.ask(b"USERNAME mon\nPASSWORD pw\nLOGIN su\nLOGOUT\n") == b"OK\nOK\nOK\nOK Goodbye\n"
         mon.up_to_end()

@@ -2,6 +2,7 @@
 import array
 import contextlib
 import fcntl
+import itertools
 import os
 import random
 import resource
@@ -17,7 +18,7 @@ READY = b"DUMPDONE\nDATAOK\n"
 TWO = b'SETINFO ups.status "OL"\nSETINFO battery.charge "100"\n'
 
 
-def comes(holds, seconds=4.0):
+def comes(holds, seconds=10.0):
     """Whether it holds in time."""
     end = time.monotonic() + seconds
     while not holds():
@@ -181,12 +182,21 @@ class Server:
             client.close()
 
 
+PORTS = itertools.count(random.randrange(16_384, 32_000))  # below those that the system gives
+
+
+def is_free(port):
+    with contextlib.suppress(OSError), socket.create_server(("127.0.0.1", port)):
+        return True
+    return False
+
+
 class OtherServer(Server):
     """Any server. In its words `{port}` is its port, and `{folder}` a folder with the files of ours and of NUT's."""
 
     def __init__(self, words, folder, upses):
         """Of each UPS the list has what its section says beside its driver, the socket dummy-ups-NAME in the folder."""
-        self.port = random.randrange(16_384, 32_768)  # below those that the system gives
+        self.port = next(port for port in PORTS if is_free(port))
         for file, text in {
                 "upses.conf": "".join(f"[{ups}]\n{more}socket = {folder}/dummy-ups-{ups}\n" for ups, more in upses.items()),
                 "ups.conf": "".join(f"[{ups}]\n{more}driver = dummy-ups\nport = x\n" for ups, more in upses.items()),
@@ -218,5 +228,5 @@ def served(folder, upsd, told=TWO, *words, env=None, errors=None):
         stack.callback(server.close)
         driver.accept(told)
         good = server.client()
-        assert comes(lambda: good.ask(b"GET VAR su ups.status\n").startswith(b"VAR"), 10)
+        assert comes(lambda: good.ask(b"GET VAR su ups.status\n").startswith(b"VAR"))
         yield server, driver, good

@@ -44,11 +44,11 @@ serve() {
 started() { MAINPID=$1 LISTEN=$2 NUT_CONFPATH=$folder "$top/tools/started"; }
 
 printf '[good]\n  driver = x\n[more] # by and by\n' >ups.conf
-serve good gone
 begun=${EPOCHREALTIME/./}
+serve good gone
 [[ $(started "$server" "$address") == "upsd: more: in $folder/ups.conf, and not in the list of UPSs" ]] && ok
 took=$((${EPOCHREALTIME/./} - begun))
-((took > 800000 && took < 5000000)) && ok
+((took > 1000000 && took < 10000000)) && ok
 first=$address
 serve good stale gone
 begun=$SECONDS
