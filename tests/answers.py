@@ -121,7 +121,7 @@ def shown(text):
 
 def differences(title, rows, command):
     """A line of each row of the table that is answered otherwise."""
-    told = []
+    found = []
     with tempfile.TemporaryDirectory() as folder:
         ends = Ends(folder, command)
         try:
@@ -129,13 +129,13 @@ def differences(title, rows, command):
                 if isinstance(row, str):
                     ends.happens(row)
                 elif got := ends.differs(row):
-                    told.append(f"{title}: {row.text}\n    {' | '.join(map(shown, filter(None, got)))}")
+                    found.append(f"{title}: {row.text}\n    {' | '.join(map(shown, filter(None, got)))}")
             if rest := ends.rest():
-                told.append(f"{title}: at its end\n    {shown(rest)}")
+                found.append(f"{title}: at its end\n    {shown(rest)}")
         except (AssertionError, OSError) as fault:  # the rest of the table isn't asked
-            told.append(f"{title}: {row if isinstance(row, str) else row.text}\n    {fault!r}")
+            found.append(f"{title}: {row if isinstance(row, str) else row.text}\n    {fault!r}")
         ends.close()
-    return told
+    return found
 
 
 def main(words):
@@ -144,9 +144,9 @@ def main(words):
     some = [(title, rows, command) for title, rows in every if not BY_SCRIPT.search(title)]
     count = sum(isinstance(row, Row) for _, rows, _ in some for row in rows)
     with concurrent.futures.ThreadPoolExecutor(8) as pool:
-        told = [line for lines in pool.map(differences, *zip(*some)) for line in lines]
-    print(*told, f"answers: {count} rows of {len(some)} tables, {len(told)} differ; {len(every) - len(some)} tables by scripts alone", sep="\n")
-    return 1 if told else 0
+        found = [line for lines in pool.map(differences, *zip(*some)) for line in lines]
+    print(*found, f"answers: {count} rows of {len(some)} tables, {len(found)} differ; {len(every) - len(some)} tables by scripts alone", sep="\n")
+    return 1 if found else 0
 
 
 if __name__ == "__main__":

@@ -16,7 +16,7 @@ LONG = 900
 
 
 def build(crate, jobs):
-    """Proves and builds a library, or a program, which then says its version, and tells whether that went well."""
+    """Proves and builds a library, or a program, which then says its version, and returns whether that went well."""
     # No lock is held, for which programs over the same libraries would wait: a crate is built once those below it are.
     crate.held = []
     with tempfile.TemporaryFile("a+", errors="replace") as crate.out:

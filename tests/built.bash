@@ -3,14 +3,14 @@
 top=$(cd "$(dirname "${BASH_SOURCE[0]}")/.." && pwd)
 
 built() {
-    local name made told
+    local name made said
     for name in "$@"; do
         made=$top/crates/$name/out/$name
         if [[ -x $made && -z $(newer_source "$made") ]]; then
             continue
         fi
-        told=$(cd "$top/crates/$name" && rt run -- --help 2>&1) || {
-            printf '%s\n%s: FAILED: %s was not built\n' "$told" "$(basename "${0%.*}")" "$name"
+        said=$(cd "$top/crates/$name" && rt run -- --help 2>&1) || {
+            printf '%s\n%s: FAILED: %s was not built\n' "$said" "$(basename "${0%.*}")" "$name"
             exit 1
         }
     done

@@ -1,5 +1,5 @@
 #!/usr/bin/env python3
-"""What a client sends, prints and tells, whatever its words, and the pieces in which the reply comes, wherever it is cut,
+"""What a client sends and prints, whatever its words, and the pieces in which the reply comes, wherever it is cut,
 however little the server or the output takes (narrow.c), and where the server says no more. A line a case, with its rows.
 """
 import concurrent.futures
@@ -33,7 +33,7 @@ ID = "1bd31808-cb49-4aec-9d75-d056e6f018d2"
 
 
 class Row(NamedTuple):
-    """The words, what the server sends at once, what it is sent, and what is printed or told."""
+    """The words, what the server sends at once, what it is sent, and what is printed, or the fault."""
 
     words: tuple
     reply: bytes
@@ -89,29 +89,29 @@ def start(words, narrow, output=subprocess.PIPE):
 
 def check_end(words, child, status, fault):
     """The program ends by this status, and reports this fault alone."""
-    printed, told = child.communicate(timeout=60)
-    got = (printed or b"", told, child.returncode)
+    printed, faults = child.communicate(timeout=60)
+    got = (printed or b"", faults, child.returncode)
     assert got == (b"", f"{words[0]}: {fault}\n".encode(), status), f"{words}: {got}"
 
 
 def meet(row, peer=PEER):
-    """What the row's client sent, printed and told, and its status."""
+    """What the row's client sent and printed, its fault, and its status."""
     child = start(row.words, {"LEAD_TO": str(peer.port), **row.narrow})
     try:
         sent = peer.meet(row.reply, row.ending)
-        printed, told = child.communicate(timeout=60)
+        printed, faults = child.communicate(timeout=60)
     except (TimeoutError, subprocess.TimeoutExpired) as error:
         raise AssertionError(f"{row}: {error}") from None
     finally:
         child.kill()
         child.wait()
-    return sent, printed, told, child.returncode
+    return sent, printed, faults, child.returncode
 
 
 def wanted(row):
-    """What its client is to have sent, printed and told, and its status."""
-    told, status = (f"{row.words[0]}: {row.fault}\n".encode(), 1) if row.fault else (b"", 0)
-    return row.sent, row.printed, told, status
+    """What its client is to have sent and printed, its fault, and its status."""
+    faults, status = (f"{row.words[0]}: {row.fault}\n".encode(), 1) if row.fault else (b"", 0)
+    return row.sent, row.printed, faults, status
 
 
 def check(rows):
@@ -230,21 +230,21 @@ def cut_replies():
 
 
 def bad_replies():
-    """Each is told at once, though the server could still send more. Which ones fit is what the contracts say; here are some
+    """Each is a fault at once, though the server could still send more. Which ones fit is what the contracts say; here are some
     of each kind."""
     for row in rows("bad replies"):
         yield row
         yield row._replace(ending=STAYS)
 
 
-def more_behind_a_reply():
+def more_after_a_reply():
     """It isn't looked at, and not waited for."""
     yield Row(("upsc", "su", "a"), b'VAR su a "1"\nVAR su a "2"\n', b"GET VAR su a\n", b"1\n")
     yield Row(LIST, LISTED + b"x", ASKED, PRINTED, ending=STAYS)
 
 
 def servers_that_take_less():
-    """It is told."""
+    """It is a fault."""
     for room in range(len(ASKED)):
         yield Row(LIST, LISTED, ASKED[:room], fault=WRITE, narrow={"STEP": "1", "SEND_ROOM": str(room)})
 
@@ -306,13 +306,13 @@ def check_unreached(programs):
 
 
 def main():
-    for case in in_pieces, values, longest_listings, cut_replies, bad_replies, more_behind_a_reply, servers_that_take_less, outputs_that_take_less:
+    for case in in_pieces, values, longest_listings, cut_replies, bad_replies, more_after_a_reply, servers_that_take_less, outputs_that_take_less:
         BENCH.case(case.__name__.replace("_", " "), check, case())
     BENCH.case("lawful words lead to their server", check_led, SERVERS, {})
     BENCH.case("an address that refuses isn't the last", check_led, TWO_ADDRESSES, {"REFUSING": REFUSING})
     BENCH.case("unlawful words are bad arguments", check_unlawful, UNLAWFUL)
     BENCH.case("other words and the help", other_words)
-    BENCH.case("nothing is sent behind a refusal", check, rows("a reply that ends the job"))
+    BENCH.case("nothing is sent after a refusal", check, rows("a reply that ends the job"))
     BENCH.case("a server that says no more is waited for 5 s", check_waits, list(rows("servers that say nothing, or no more", STAYS)))
     BENCH.case("a server that takes no connection, too", check_unreached, [LIST, SET, ("upscmd", "-l", "su")])
     BENCH.end()

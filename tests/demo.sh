@@ -1,6 +1,6 @@
 #!/usr/bin/env bash
 # `make demo`: living data within 3 seconds, a power failure that passes by the very commands that it prints, how tracked orders
-# end, and nothing that stays behind: no file, and no program. Its driver takes a dead one's place.
+# end, and that nothing is left: no file, and no program. Its driver takes a dead one's place.
 set -euo pipefail
 # shellcheck source=tests/built.bash
 source "$(dirname "${BASH_SOURCE[0]}")/built.bash"
@@ -38,7 +38,7 @@ ends() {
 
 mkdir "$folder/room"
 : >"$folder/said"
-TMPDIR=$folder/room make -s demo >"$folder/said" 2>"$folder/told" &
+TMPDIR=$folder/room make -s demo >"$folder/said" 2>"$folder/journal" &
 demo=$!
 begun=$SECONDS
 shows '^ups\.status: OL$'
@@ -67,8 +67,8 @@ within 'programs stay' eval "! grep -qs '$folder/roo[m]' /proc/[0-9]*/cmdline"
 # The journal has the orders, each once, and no value.
 ordered="upsd: demo: admin@127.0.0.1 ordered"
 orders='SET VAR battery.charge.low,INSTCMD test.failure.start,SET VAR ups.status,SET VAR ups.status,INSTCMD test.failure.stop'
-[[ $(sed -n "s/^$ordered //p" "$folder/told" | paste -sd ,) == "$orders" ]] || fails 'which orders were told'
-grep -vE "^(upsd: demo: (driver connected|data good|status [A-Z ]+)|$ordered .*|make: .*)$" "$folder/told" && fails 'what was told'
+[[ $(sed -n "s/^$ordered //p" "$folder/journal" | paste -sd ,) == "$orders" ]] || fails 'which orders were logged'
+grep -vE "^(upsd: demo: (driver connected|data good|status [A-Z ]+)|$ordered .*|make: .*)$" "$folder/journal" && fails 'what was logged'
 
 # A driver that ends leaves its socket. The next one takes its place; no other one does while that lives.
 driver=(crates/demodriver/out/demodriver "$folder/driver")

@@ -1,5 +1,5 @@
 #!/usr/bin/env bash
-# `tools/from_nut` over files as NUT's upsd reads them, in scripts/from_nut: what it writes, what it tells that it left out, and that the
+# `tools/from_nut` over files as NUT's upsd reads them, in scripts/from_nut: what it writes, what it says that it left out, and that the
 # built server takes what it wrote.
 set -euo pipefail
 # shellcheck source=tests/built.bash
@@ -11,10 +11,10 @@ cd "$folder"
 cp "$top"/tests/scripts/from_nut/* .
 
 checks=0
-# Compares what is written and told of a file with what stands beside it.
+# Compares what is written and said of a file with what stands beside it.
 turns() {
-    bash "$top/tools/from_nut" "$1" "$2" >"$2.written" 2>"$2.told"
-    cmp "$2.written" "$2.wanted" && cmp "$2.told" "$2.left" && checks=$((checks + 1))
+    bash "$top/tools/from_nut" "$1" "$2" >"$2.written" 2>"$2.said"
+    cmp "$2.written" "$2.wanted" && cmp "$2.said" "$2.left" && checks=$((checks + 1))
 }
 
 turns ups ups.conf

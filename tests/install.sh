@@ -32,7 +32,7 @@ offered() {
     _voqarchay "$1" "${@: -1}" "${@: -2:1}"
     printf '%s\n' "${COMPREPLY[@]}" | sort
 }
-# The options that a --help tells, and the subcommands.
+# The options that a --help names, and the subcommands.
 options_of() { "$usr/$1" "${@:2}" --help | sed -nE 's/^ +(-[A-Za-z]|--[a-z-]+)(, (--[a-z-]+))? .*/\1 \3/p' | tr ' ' '\n' | grep . | sort; }
 subcommands_of() { "$usr/$1" --help | sed -nE '/^Commands:/,/^$/s/^  ([a-z]+) .*/\1/p' | sort; }
 # shellcheck source=tools/completion.bash

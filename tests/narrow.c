@@ -40,7 +40,7 @@ static size_t part_of(size_t size, const char *room, size_t used)
 }
 
 /* Adds a line of these words to the file that LED names. */
-static void tell(const char *what, const char *name, const char *more)
+static void report(const char *what, const char *name, const char *more)
 {
     const char *path = getenv("LED");
     int file = path ? open(path, O_WRONLY | O_APPEND | O_CLOEXEC) : -1;
@@ -87,7 +87,7 @@ int getaddrinfo(const char *host, const char *service, const struct addrinfo *hi
     int (*real)(const char *, const char *, const struct addrinfo *, struct addrinfo **) = dlsym(RTLD_NEXT, "getaddrinfo");
     if (!getenv("LEAD_TO"))
         return real(host, service, hints, found);
-    tell("look up", host, "");
+    report("look up", host, "");
     const char *refusing = getenv("REFUSING");
     int fault = real(refusing ? refusing : "127.0.0.1", service, hints, found);
     if (!refusing || fault)
@@ -106,7 +106,7 @@ int connect(int wire, const struct sockaddr *address, socklen_t length)
     struct sockaddr_in led = *(const struct sockaddr_in *)address;
     char port[8];
     snprintf(port, sizeof port, ":%d", ntohs(led.sin_port));
-    tell("connect", inet_ntoa(led.sin_addr), port);
+    report("connect", inet_ntoa(led.sin_addr), port);
     const char *refusing = getenv("REFUSING");
     if (refusing && led.sin_addr.s_addr == inet_addr(refusing)) {
         errno = ECONNREFUSED;

@@ -122,8 +122,8 @@ class Peers:
         os.mkdir(folder)
         conf = text_of("scripts/peers/upsmon.conf").format(su=self.names["su"], user=user, password=password, role=role, folder=folder)
         self.file(f"{role}/upsmon.conf", conf)
-        self.file(f"{role}/notify", f'#!/bin/sh\necho "$NOTIFYTYPE" >>{folder}/told\n')
-        self.file(f"{role}/told", "")
+        self.file(f"{role}/notify", f'#!/bin/sh\necho "$NOTIFYTYPE" >>{folder}/notified\n')
+        self.file(f"{role}/notified", "")
         forget(MONITOR_ID)
         self.start(role, UPSMON, "-F", "-p", NUT_CONFPATH=folder)
 
@@ -145,7 +145,7 @@ class Peers:
     # The rows.
 
     def answer(self, words):
-        """What a command prints, and its status. NUT's clients tell on standard error that they have no certificates."""
+        """What a command prints, and its status. NUT's clients say on standard error that they have no certificates."""
         if words[0] == "journal":
             return f"{self.server.journal().count(words[1])} [0]"
         if words[0] == "pynut":
@@ -169,11 +169,11 @@ class Peers:
         self.server.close()
         time.sleep(1)
         words = [*"replay --ups relayed.conf --users ours.users --vars ours.vars record".split()]
-        told = subprocess.run([BUILT["upsd"], *words], cwd=self.folder, capture_output=True, check=True).stdout
-        told = re.sub(rb"\A(?:line \d+: [^\n]*\n)*", b"", told)
+        printed = subprocess.run([BUILT["upsd"], *words], cwd=self.folder, capture_output=True, check=True).stdout
+        printed = re.sub(rb"\A(?:line \d+: [^\n]*\n)*", b"", printed)
         want = b"".join(sent(f"client {n}", kept) for n, kept in enumerate(self.to_clients.kept, 1)) + sent("driver su", b"".join(self.to_driver.kept))
-        well = told.startswith(want)
-        print("peers: ok: the record replays to the same bytes" if well else f"peers: FAILED: {difference(told, want)}", flush=True)
+        well = printed.startswith(want)
+        print("peers: ok: the record replays to the same bytes" if well else f"peers: FAILED: {difference(printed, want)}", flush=True)
         return well
 
 

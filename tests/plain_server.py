@@ -1,7 +1,7 @@
 """The server in plain Python, as docs/PROTOCOL.md, docs/DRIVER.md and docs/FILES.md describe it.
 
 It shares nothing with the program: it is what the program's answers are compared with. A listing is text as soon as
-its line is executed, and what is owed is one text. Where memory is refused it is told so, since it can't know.
+its line is executed, and what is owed is one text. Where memory is refused is given, since it can't know.
 """
 import re
 
@@ -434,14 +434,14 @@ class Replay:
 
     def __init__(self, server, refused=None, after=0):
         self.server, self.refused, self.after = server, refused, after
-        self.told = []
+        self.notes = []
 
     def output(self, script):
         for number, line in enumerate(script.split(b"\n"), 1):
             if line.strip(BLANKS) and not line.lstrip(BLANKS).startswith(b"#"):
                 self.place = 0
                 self.act(number, *line.split(b" ", 1))
-        text = b"".join(self.told)
+        text = b"".join(self.notes)
         for session in self.server.sessions:
             text += self.part(b"client %d" % session.number, session.sent)
         for ups in self.server.upses.values():
@@ -458,7 +458,7 @@ class Replay:
         try:
             return call(*words)
         except Refused as refused:
-            self.told.append(b"line %d: refused %d\n" % (number, refused.args[0]))
+            self.notes.append(b"line %d: refused %d\n" % (number, refused.args[0]))
             return None
         finally:
             self.server.refuse = None
@@ -480,7 +480,7 @@ class Replay:
         else:
             count = self.event(number, server.feed, int(who), piece)
             if count is not None and count < len(piece):
-                self.told.append(b"line %d: %d of %d bytes held\n" % (number, count, len(piece)))
+                self.notes.append(b"line %d: %d of %d bytes held\n" % (number, count, len(piece)))
 
     def take(self, number, call, who, rest, end):
         """`all` is taken until nothing is offered."""

@@ -19,9 +19,9 @@ GET = b"GET VAR su ups.status\n"
 MIB = 1 << 20
 
 
-def recorded(name, told, *words, upsd=BENCH.program):
-    """A server whose record is the file of this name, its driver, which has told this, and a good client."""
-    return served(FOLDER, upsd, told, "--record", f"{FOLDER}/{name}", *words)
+def recorded(name, reported, *words, upsd=BENCH.program):
+    """A server whose record is the file of this name, its driver, which has reported this, and a good client."""
+    return served(FOLDER, upsd, reported, "--record", f"{FOLDER}/{name}", *words)
 
 
 def content(name):
@@ -47,17 +47,17 @@ def end(server, driver):
 
 def replays(name, want):
     """The replay of the record prints that, after what it notes of refused lines and held bytes."""
-    status, told, faults = BENCH.ends("replay", *FILES, name)
+    status, printed, faults = BENCH.ends("replay", *FILES, name)
     assert (status, faults) == (0, b""), (status, faults)
-    notes = re.match(rb"(line [0-9]+: [^\n]*\n)*", told)[0]
-    assert told[len(notes):] == want, difference(told[len(notes):], want)
-    return told
+    notes = re.match(rb"(line [0-9]+: [^\n]*\n)*", printed)[0]
+    assert printed[len(notes):] == want, difference(printed[len(notes):], want)
+    return printed
 
 
 def a_record_replays_to_the_same_bytes():
     """Of orders, and a driver that restarts. peers.py records real programs."""
-    told = TWO + b"SETFLAGS battery.charge RW STRING\nSETAUX battery.charge 8\n"
-    with recorded("session", told, "--ids", "/dev/urandom") as (server, driver, good):
+    reported = TWO + b"SETFLAGS battery.charge RW STRING\nSETAUX battery.charge 8\n"
+    with recorded("session", reported, "--ids", "/dev/urandom") as (server, driver, good):
         good.ask(GET + b"LIST UPS\n\nNO SUCH\n", 5)
         assert good.ask(ADMIN + b"SET VAR su battery.charge 99\n") == b"OK\n" * 3
         assert driver.order().startswith(b"SET battery.charge")
@@ -85,7 +85,7 @@ def a_record_replays_to_the_same_bytes():
 
 
 def serves_on(name, most, *words, **more):
-    """After the record has ended the server answers as ever, and the journal has said so once. The record replays, but for its last line."""
+    """After the record has ended the server answers as ever, and the journal has said so once. The record replays, except for its last line."""
     with recorded(name, TWO, *words, **more) as (server, driver, good):
         for number in range(most // 500):
             if number % 100 == 0:
@@ -117,11 +117,11 @@ def a_masked_record_replays():
         pieces.send(b"USERNAME mon\nPASSW")
         time.sleep(0.1)
         assert pieces.ask(b"ORD p\\w\nLOGIN su\n", 3) == b"OK\nOK\nOK\n"
-        told = replays("secret", end(server, driver))
+        printed = replays("secret", end(server, driver))
     subprocess.run([f"{HERE}/../tools/mask", "users", "secret", "AB12CD"], cwd=FOLDER, check=True)
     status, again, faults = BENCH.ends("replay", *FILES[:3], "users.masked", "secret.masked")
     assert (status, faults) == (0, b"") and b"aaaaaa" in again, (status, faults)
-    assert again == told.replace(b"AB12CD", b"aaaaaa"), difference(again, told)
+    assert again == printed.replace(b"AB12CD", b"aaaaaa"), difference(again, printed)
     text = b"".join(bytes.fromhex(digits.decode()) for digits in re.findall(rb"-hex \w+ (\w+)", content("secret.masked")))
     assert not re.search(rb"s3 cret|p\\?w\n|AB12CD", text + content("users.masked"))
 

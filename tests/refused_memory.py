@@ -2,7 +2,7 @@
 """Each request for memory refused in turn (refuse.c), over the built programs.
 
 A run in which the Nth request is refused, for every N up to a run that makes fewer: of each the whole right output comes, or
-a fault is told and nothing else is said that isn't so. Where a run makes more than 2,000 requests, each of the first 300 is
+a fault is reported and nothing else is said that isn't so. Where a run makes more than 2,000 requests, each of the first 300 is
 refused, and then every 50th.
 """
 import contextlib
@@ -25,7 +25,7 @@ ALL = 2**64 - 1
 
 
 class Control:
-    """What the library is told, and what it tells: the four numbers of refuse.c."""
+    """What the library is given, and what it counts: the four numbers of refuse.c."""
 
     def __init__(self):
         with open(BENCH.file("control", bytes(32)), "r+b") as file:
@@ -56,8 +56,8 @@ def turns(total):
 
 
 def in_turn(words, want, judge):
-    """Refuses each request of the program in turn, alone and with all after it. Tells how many there are, and how often which fault was told
-    where one was refused alone."""
+    """Refuses each request of the program in turn, alone and with all after it. Returns how many there are, and how often which fault was
+    reported where only one was refused."""
     CONTROL.refuse(0, 0)
     got = run(words)
     assert got == (0, want, b""), got
@@ -90,12 +90,12 @@ def replay_in_turn(script, files):
     def judge(got):
         if got == (1, b"", b"upsd: no memory\n"):
             return "no memory"
-        status, told, faults = got
-        said = re.findall(rb"^line (\d+): refused 8$", told, re.MULTILINE)
+        status, printed, faults = got
+        said = re.findall(rb"^line (\d+): refused 8$", printed, re.MULTILINE)
         if (status, faults, len(said)) != (0, b"", 1):
             return None
         events = ((int(said[0]), place) for place in range(4))
-        is_so = any(Replay(Server(**files), event, after).output(script) == told for event in events for after in range(8))
+        is_so = any(Replay(Server(**files), event, after).output(script) == printed for event in events for after in range(8))
         return "refused 8" if is_so else None
 
     words = [UPSD, "replay", BENCH.file("script", script), *BENCH.options(files)]
@@ -105,7 +105,7 @@ def replay_in_turn(script, files):
 # Clients.
 
 def client_in_turn(program, want, *words):
-    """Each request of the client refused in turn: it prints all, or tells a fault and prints nothing."""
+    """Each request of the client refused in turn: it prints all, or reports a fault and prints nothing."""
     fault = f"{os.path.basename(program)}: no memory\n".encode()
     return in_turn([program, *words], want, lambda got: "no memory" if got == (1, b"", fault) else None)
 
@@ -132,11 +132,11 @@ SERVED = b'VAR su ups.status "OL"\n'
 
 
 @contextlib.contextmanager
-def serving(told):
+def serving(reported):
     """The built server, with the driver of su and a client that is there before memory is refused."""
     CONTROL.refuse(0, 0)
     BENCH.file("users", FILES["users"])
-    with served(FOLDER, UPSD, told, env=REFUSING) as ends:
+    with served(FOLDER, UPSD, reported, env=REFUSING) as ends:
         assert CONTROL.requests > 0, "no request was counted"
         yield ends
 
@@ -181,7 +181,7 @@ def what_is_no_listing_asks_for_no_memory():
 
 def a_server_without_memory_goes_on():
     """LIST UPS stays held, and what was sent after it; both are answered at the next bytes once there is memory. A client that comes is
-    closed without a word. A driver is lost; it is connected to again, and its data are right once it has told them."""
+    closed without a word. A driver is lost; it is connected to again, and its data are right once it has reported them."""
     with serving(STATUS) as (server, driver, client):
         CONTROL.refuse_all()
         client.send(b"NETVER\nLIST UPS\nVER\n")
@@ -203,7 +203,7 @@ def a_server_without_memory_goes_on():
 
 
 def starting():
-    """Each request before it listens: it tells that there is no memory, or it listens."""
+    """Each request before it listens: it reports that there is no memory, or it listens."""
     words = [UPSD, "serve", *BENCH.options(FILES), "--listen", "127.0.0.1:0"]
     request, ended = 0, 0
     while True:
@@ -228,9 +228,9 @@ def an_insert_asks_for_the_nodes_that_it_counts():
     requests = []
     for row in (b"map_get 4095|", b"map_set 4095|"):  # each answers that there is none
         CONTROL.refuse(0, 0)
-        told = subprocess.run([DATATESTS], input=b"map 4095\nmap_share\nmap_made\n" + row + b"\nmap_made\n", env=REFUSING, capture_output=True, check=True).stdout
+        printed = subprocess.run([DATATESTS], input=b"map 4095\nmap_share\nmap_made\n" + row + b"\nmap_made\n", env=REFUSING, capture_output=True, check=True).stdout
         requests.append(CONTROL.requests)
-    before, after = (int(line.split(b" => ")[1]) for line in told.splitlines() if line.startswith(b"map_made"))
+    before, after = (int(line.split(b" => ")[1]) for line in printed.splitlines() if line.startswith(b"map_made"))
     made, asked = after - before, requests[1] - requests[0]
     assert 6 <= made <= asked <= made + 4, (made, asked)
     return f"{asked} requests for {made} nodes"

@@ -95,16 +95,16 @@ HELP = {
 
 def ends_so(words, *want):
     """What the system says of a fault may follow on a line of its own."""
-    status, told, faults = BENCH.ends("replay", *words.split(" "))
-    assert (status, told, faults.partition(b"\n")[0]) == want, (status, told, faults)
+    status, printed, faults = BENCH.ends("replay", *words.split(" "))
+    assert (status, printed, faults.partition(b"\n")[0]) == want, (status, printed, faults)
 
 
 def other_words():
     """Words that are refused, one that is no text, an output that is full, and the help."""
     for words in WRONG_WORDS:
         BENCH.refuses_words(*words.split())
-    status, told, faults = BENCH.ends("replay", b"\xff")
-    assert (status, told, faults.partition(b"\n")[0]) == (2, b"", b"upsd: bad argument"), faults
+    status, printed, faults = BENCH.ends("replay", b"\xff")
+    assert (status, printed, faults.partition(b"\n")[0]) == (2, b"", b"upsd: bad argument"), faults
     full = ends_in_full(BENCH.program, "replay", BENCH.file("netver", b"open 192.0.2.1\nclient 1 NETVER\ntook 1 all\n"))
     assert full == (1, b"upsd: write failed\n"), full
     return each(HELP.items(), lambda words, named: BENCH.prints_help(named, *words.split(" ")))

@@ -47,17 +47,17 @@ class Bench:
 
     def prints(self, script, want, **files):
         """The replay over these files is done, and prints this."""
-        status, told, faults = self.replay(script, files)
+        status, printed, faults = self.replay(script, files)
         assert (status, faults) == (0, b""), (status, faults)
-        assert told == want, difference(told, want)
+        assert printed == want, difference(printed, want)
 
     def agrees(self, script, **files):
         """The replay is done, and prints what the plain server does."""
         self.prints(script, Replay(Server(**files)).output(script), **files)
 
     def faults(self, script, fault, **files):
-        status, told, faults = self.replay(script, files)
-        assert (status, told, faults) == (1, b"", fault), (status, told[:200], faults)
+        status, printed, faults = self.replay(script, files)
+        assert (status, printed, faults) == (1, b"", fault), (status, printed[:200], faults)
 
     def ends(self, *words, program=None, **more):
         """How the program, given these words in the folder, ends: its status, output and errors."""
@@ -66,14 +66,14 @@ class Bench:
         return ended.returncode, ended.stdout, ended.stderr
 
     def refuses_words(self, *words, program=None):
-        status, told, faults = self.ends(*words, program=program)
-        assert (status, told, faults[:7]) == (2, b"", b"error: "), (words, status, told, faults)
+        status, printed, faults = self.ends(*words, program=program)
+        assert (status, printed, faults[:7]) == (2, b"", b"error: "), (words, status, printed, faults)
 
     def prints_help(self, named, *words, program=None):
         """It prints a help that has each of these texts."""
-        status, told, faults = self.ends(*words, program=program)
+        status, printed, faults = self.ends(*words, program=program)
         assert (status, faults) == (0, b""), (words, status, faults)
-        assert all(text in told.decode() for text in named), (words, told)
+        assert all(text in printed.decode() for text in named), (words, printed)
 
     def case(self, name, call, *words):
         begun = time.monotonic()
@@ -158,9 +158,9 @@ def each(rows, check):
     return f"{len(rows)} cases"
 
 
-def difference(told, want):
-    at = next((i for i, pair in enumerate(zip(told, want)) if pair[0] != pair[1]), min(len(told), len(want)))
-    return f"{len(told)} bytes, not {len(want)}; at byte {at}: {told[at - 40:at + 60]!r}, not {want[at - 40:at + 60]!r}"
+def difference(got, want):
+    at = next((i for i, pair in enumerate(zip(got, want)) if pair[0] != pair[1]), min(len(got), len(want)))
+    return f"{len(got)} bytes, not {len(want)}; at byte {at}: {got[at - 40:at + 60]!r}, not {want[at - 40:at + 60]!r}"
 
 
 def lines(every):

@@ -56,7 +56,7 @@ def begun(ups, *words, files=None, port=0):
 
 
 def many(count, size):
-    """What a driver tells that has so many variables of so many bytes."""
+    """What a driver reports that has so many variables of so many bytes."""
     return b'SETINFO ups.status "OL"\n' + b"".join(
         b'SETINFO v%04d "%s"\n' % (i, b"x" * size) for i in range(1, count))
 
@@ -66,27 +66,27 @@ def many_listed(count, size):
     return b"BEGIN LIST VAR su\n" + items + b"END LIST VAR su\n"
 
 
-def words_and_files_are_told_as_faults():
+def words_and_files_are_reported_as_faults():
     ups, users = file("list", "[su]\nsocket = /run/nut/su\n"), path("users")
     files = ["--ups", ups, "--users", users]
     bad = file("bad", "nothing\n")
     for listen in ["localhost:3493", "127.0.0.1", "127.0.0.1:65536", ""]:
-        told = f"upsd: bad argument\nupsd: --listen {listen}: not an IP address and a port\n"
-        assert BENCH.ends("serve", *files, "--listen", listen) == (2, b"", told.encode()), listen
+        fault = f"upsd: bad argument\nupsd: --listen {listen}: not an IP address and a port\n"
+        assert BENCH.ends("serve", *files, "--listen", listen) == (2, b"", fault.encode()), listen
     for words in [["--maxage", "2"], ["--maxage", "86401"], ["--maxage", "x"], ["more"]]:
-        status, out, told = BENCH.ends("serve", *files, *words)
-        assert (status, out, told[:7]) == (2, b"", b"error: "), words
+        status, out, faults = BENCH.ends("serve", *files, *words)
+        assert (status, out, faults[:7]) == (2, b"", b"error: "), words
     assert BENCH.ends("serve", "--ups", ups)[0] == 2
     absent = path("absent")
     missing = f"{absent}: cannot read\nupsd: {absent}: No such file or directory (os error 2)"
-    # The first fault is told, in the order of the words, the list, the users, the descriptions, the ids, the address.
-    for words, told in [
+    # The first fault is reported, in the order of the words, the list, the users, the descriptions, the ids, the address.
+    for words, fault in [
             (["--ups", bad, "--users", absent], f"{bad}:1: cause 1"),
             (["--ups", ups, "--users", FOLDER], f"{FOLDER}: cannot read\nupsd: {FOLDER}: Is a directory (os error 21)"),
             (["--ups", ups, "--users", users, "--vars", bad], f"{bad}:1: cause 1"),
             (files + ["--ids", absent, "--listen", "192.0.2.1:1"], missing),
             (files + ["--listen", "192.0.2.1:1"], "cannot listen\nupsd: 192.0.2.1:1: Cannot assign requested address (os error 99)")]:
-        assert BENCH.ends("serve", *words) == (1, b"", f"upsd: {told}\n".encode()), words
+        assert BENCH.ends("serve", *words) == (1, b"", f"upsd: {fault}\n".encode()), words
     ended = ends_in_full(UPSD, "serve", *files, "--listen", "127.0.0.1:0")
     assert ended == (1, b"upsd: write failed\n"), ended
 
@@ -96,15 +96,15 @@ NO_PASSWORD = "a user without a password, who may do nothing"
 
 
 def warned(*words):
-    """What is told by the time that it says that it listens, and by a replay of nothing."""
+    """What it warns of before it says that it listens, and by a replay of nothing."""
     with contextlib.closing(serving.Server(UPSD, *words)) as server:
-        told = [line for line in server.journal().splitlines() if line.startswith("upsd: warning: ")]
+        warnings = [line for line in server.journal().splitlines() if line.startswith("upsd: warning: ")]
     replayed = subprocess.run([UPSD, "replay", "--ups", *words[:3], "/dev/null"], capture_output=True, text=True, check=True)
-    assert replayed.stderr.splitlines() == told[:len(replayed.stderr.splitlines())], replayed.stderr
-    return told, len(told) - len(replayed.stderr.splitlines())
+    assert replayed.stderr.splitlines() == warnings[:len(replayed.stderr.splitlines())], replayed.stderr
+    return warnings, len(warnings) - len(replayed.stderr.splitlines())
 
 
-def dangers_of_the_files_are_told():
+def dangers_of_the_files_are_warned_of():
     dangerous = "[a]\nactions = SET\n[b]\npassword = \"change-me\"\ninstcmds = All\n"
     dangerous += "[c]\npassword = change-me-too\ninstcmds = ALL\ninstcmds = test.all\n[d]\nupsmon secondary\n"
     dangers = [("a", NO_PASSWORD), ("b", EXAMPLE), ("b", SMALL), ("c", EXAMPLE), ("d", NO_PASSWORD)]
@@ -112,26 +112,26 @@ def dangers_of_the_files_are_told():
     lines = [f"upsd: warning: {users}: [{name}]: {danger}" for name, danger in dangers]
     for mode, is_warned in [(0o604, True), (0o640, False), (0o644, True)]:
         os.chmod(users, mode)
-        told = [f"upsd: warning: {users}: everybody may read it"] * is_warned + lines
-        assert warned(ups, "--users", users) == (told, 0), oct(mode)
+        warnings = [f"upsd: warning: {users}: everybody may read it"] * is_warned + lines
+        assert warned(ups, "--users", users) == (warnings, 0), oct(mode)
     assert warned(ups, "--users", path("users")) == ([], 0)
     example = warned(ups, "--users", f"{HERE}/../examples/upsd.users")[0]
     assert sum(line.endswith(EXAMPLE) for line in example) == 2
-    # A file that is refused is told by its cause alone.
+    # Of a file that is refused only the cause is reported.
     refused = file("refused", dangerous + "[d]\n")
     ended = BENCH.ends("serve", "--ups", path("list"), "--users", refused)
     assert ended == (1, b"", f"upsd: {refused}:12: cause 4\n".encode())
 
 
-def what_the_files_lack_is_told():
+def what_the_files_lack_is_warned_of():
     some, none = file("some", f"[a]\n[b]\nsocket = {path('b.sock')}\n[c]\n"), file("none", "# nothing\n")
     os.chmod(none, 0o600)
     users = path("users")
     assert warned(some, "--users", users) == ([f"upsd: warning: {some}: [{ups}]: no socket of a driver" for ups in "ac"], 0)
     assert warned(none, "--users", none) == ([f"upsd: warning: {none}: no UPS", f"upsd: warning: {none}: no users"], 0)
     for ids in FOLDER, none, "/dev/null":
-        told = f"upsd: warning: {ids}: gives no id for a tracked order"
-        assert warned(path("connected"), "--users", users, "--ids", ids) == ([told], 1)
+        warning = f"upsd: warning: {ids}: gives no id for a tracked order"
+        assert warned(path("connected"), "--users", users, "--ids", ids) == ([warning], 1)
     assert warned(path("connected"), "--users", users, "--ids", "/dev/urandom") == ([], 0)
     # Only a replay of nothing judges the files.
     script = file("script", "tick 1\n")
@@ -148,7 +148,7 @@ def logs(server, *lines):
 ORDERS = TWO + b'SETINFO ups.delay "20"\nSETFLAGS ups.delay RW\nADDRANGE ups.delay 0 600\nADDCMD test.battery.start\n'
 
 
-def orders_reach_the_driver_and_are_told_once_and_no_value():
+def orders_reach_the_driver_and_are_logged_once_without_values():
     with served(ORDERS) as (server, driver, good):
         order, command = b"SET VAR su ups.delay 30\n", b"INSTCMD su test.battery.start\n"
         assert good.ask(ADMIN + order + command + order) == b"OK\n" * 5
@@ -173,7 +173,7 @@ def a_driver_that_took_none_gets_its_orders_again():
         assert driver.line() == b"INSTCMD test.battery.start\n"
 
 
-def a_forced_shutdown_is_seen_and_each_order_of_it_told():
+def a_forced_shutdown_is_seen_and_each_order_of_it_logged():
     with served() as (server, _, good):
         other = server.client()
         assert other.ask(MON + b"FSD su\n") == b"OK\nOK\nERR ACCESS-DENIED\n"
@@ -190,7 +190,7 @@ def drain(driver):
 
 
 def a_standard_error_that_nobody_reads_stops_nothing():
-    count, slowest, told, (reading, errors) = 50_000, 0, b"", os.pipe()
+    count, slowest, journal, (reading, errors) = 50_000, 0, b"", os.pipe()
     with served(ORDERS, errors=errors) as (server, driver, good):
         os.close(errors)
         threading.Thread(target=drain, args=(driver,), daemon=True).start()
@@ -203,20 +203,20 @@ def a_standard_error_that_nobody_reads_stops_nothing():
             slowest = max(slowest, worst_wait(good, 1))
             assert all(admin.line() + mon.line() == b"OK\nERR ACCESS-DENIED\n" for _ in range(50))
         assert slowest < 0.2, f"{slowest:.3f} s for an answer"
-        while not told.endswith(b"were dropped\n"):
-            assert select.select([reading], [], [], 4)[0], told[-200:]
-            told += os.read(reading, 1 << 16)
-        lines = told.decode().splitlines()
+        while not journal.endswith(b"were dropped\n"):
+            assert select.select([reading], [], [], 4)[0], journal[-200:]
+            journal += os.read(reading, 1 << 16)
+        lines = journal.decode().splitlines()
         ordered, dropped = lines.count(what), int(lines[-1].split()[1])
         assert "".join(line + "\n" for line in lines[:3]) == COME, lines[:3]
-        assert len(told) > 1 << 16 and count <= ordered + dropped <= count + 100, (len(told), ordered, dropped)
+        assert len(journal) > 1 << 16 and count <= ordered + dropped <= count + 100, (len(journal), ordered, dropped)
         assert admin.ask(order) == b"OK\n"
         assert os.read(reading, 1 << 16).decode() == what + "\n"
     os.close(reading)
     return f"the slowest answer took {slowest * 1000:.1f} ms"
 
 
-def refused_logins_are_told_once_a_second():
+def refused_logins_are_logged_once_a_second():
     with served() as (server, _, good):
         other = server.client("127.0.0.2")
         assert other.ask(b"LOGIN su\nATTACH su\nLOGIN su\n") == b"ERR USERNAME-REQUIRED\n" * 3
@@ -227,19 +227,19 @@ def refused_logins_are_told_once_a_second():
         logs(server, "mon@127.0.0.2 was refused LOGIN: ACCESS-DENIED")
 
 
-def a_client_that_is_refused_all_the_time_is_told_once_a_second():
+def a_client_that_is_refused_all_the_time_is_logged_once_a_second():
     with served() as (server, _, good):
         begin, refused = time.monotonic(), "upsd: su: mon@127.0.0.1 was refused FSD: ACCESS-DENIED\n"
         assert good.ask(MON) == b"OK\n" * 2
         while time.monotonic() < begin + 3:
             assert good.ask(b"FSD su\n") == b"ERR ACCESS-DENIED\n"
             time.sleep(0.01)
-        told = server.journal()
-        assert told == COME + refused * told.count(refused), told
-        assert 3 <= told.count(refused) <= 4, told
+        journal = server.journal()
+        assert journal == COME + refused * journal.count(refused), journal
+        assert 3 <= journal.count(refused) <= 4, journal
 
 
-def who_logs_in_or_attaches_is_told_and_who_leaves():
+def who_logs_in_or_attaches_is_logged_and_who_leaves():
     with served() as (server, _, good):
         first, second = server.client("127.0.0.2"), server.client("127.0.0.3")
         assert first.ask(MON + b"LOGIN su\n") == b"OK\n" * 3
@@ -247,7 +247,7 @@ def who_logs_in_or_attaches_is_told_and_who_leaves():
         assert second.ask(ADMIN + b"ATTACH su\n") == b"OK\n" * 3
         logs(server, "admin@127.0.0.3 logged in")
         assert good.ask(b"GET NUMATTACH su\n") == b"NUMATTACH su 2\n"
-        # One says so, one is gone; who isn't logged in isn't told.
+        # One says so, one is gone. Of who isn't logged in nothing is logged.
         assert good.ask(MON) == b"OK\n" * 2
         assert first.ask(b"DETACH\n") == b"OK Goodbye\n"
         logs(server, "mon@127.0.0.2 logged out")
@@ -255,13 +255,13 @@ def who_logs_in_or_attaches_is_told_and_who_leaves():
         logs(server, "admin@127.0.0.3 logged out")
 
 
-def a_login_is_told_of_its_ups():
+def a_login_is_logged_with_its_ups():
     with begun(file("two.conf", "[a]\n[b]\n")) as server:
         assert server.client().ask(MON + b"LOGIN b\n") == b"OK\n" * 3
         assert comes(lambda: server.journal().endswith("\nupsd: b: mon@127.0.0.1 logged in\n")), server.journal()
 
 
-def a_login_of_one_piece_is_told_and_its_end():
+def a_login_of_one_piece_is_logged_and_its_end():
     """By LOGOUT, by a line that is too long, and by the end of the connection."""
     with served() as (server, _, good):
         for end in (b"LOGOUT\n", b"x" * 3000, b""):
@@ -274,7 +274,7 @@ def a_login_of_one_piece_is_told_and_its_end():
         logs(server, *["mon@127.0.0.1 logged in", "mon@127.0.0.1 logged out"] * 3)
 
 
-def refused_lines_of_a_driver_are_told_with_their_number():
+def refused_lines_of_a_driver_are_logged_with_their_number():
     with served() as (server, driver, good):
         driver.send(b'HELLO s3cret\nUNKNOWN x\nNOPE\nADDRANGE battery.charge 1 s3cret\n')
         logs(server, "lines of the driver refused: 4, the last one: bad number")
@@ -285,7 +285,7 @@ def refused_lines_of_a_driver_are_told_with_their_number():
         assert good.ask(GET) == STATUS
 
 
-def drivers_are_connected_to_before_it_tells_that_it_listens():
+def drivers_are_connected_to_before_it_says_that_it_listens():
     drivers = [Driver(path(f"{name}.sock")) for name in "de"]
     ups = file("two.conf", "".join(f"[{name}]\nsocket = {path(name)}.sock\n" for name in "de"))
     with begun(ups):
@@ -307,24 +307,24 @@ def a_lost_driver_comes_back():
 
 
 def drivers_that_are_not_there_are_tried_again():
-    """And why they can't be connected to is told once a reason."""
+    """And why they can't be connected to is logged once for each reason."""
     absent, plain, refusing = path("absent.sock"), file("plain", ""), Driver(path("refusing.sock"))
     refusing.listener.close()
     ups = file("three.conf", f"[a]\nsocket = {absent}\n[b]\nsocket = {plain}\n[c]\nsocket = {refusing.path}\n")
     asks = b"GET VAR a x\nGET VAR b x\nGET VAR c x\n"
-    told = ["upsd: a: " + NO_FILE, "upsd: b: " + REFUSED, "upsd: c: " + REFUSED]
+    wanted = ["upsd: a: " + NO_FILE, "upsd: b: " + REFUSED, "upsd: c: " + REFUSED]
     with begun(ups) as server:
         good = server.client()
         assert good.ask(asks) == AWAY * 3
-        assert comes(lambda: sorted(server.journal().splitlines(True)) == told), server.journal()
+        assert comes(lambda: sorted(server.journal().splitlines(True)) == wanted), server.journal()
         time.sleep(1.2)
-        assert sorted(server.journal().splitlines(True)) == told, server.journal()
+        assert sorted(server.journal().splitlines(True)) == wanted, server.journal()
         os.unlink(plain)
         os.unlink(refusing.path)
         drivers = [Driver(there).accept(b'SETINFO x "1"\n') for there in (absent, plain, refusing.path)]
         assert comes(lambda: good.ask(asks).count(b'"1"') == 3)
-        told = [f"upsd: {name}: {news}" for name in "abc" for news in ["data good", "driver connected"]]
-        assert comes(lambda: [line for line in sorted(server.journal().splitlines()) if "cannot connect" not in line] == told), server.journal()
+        wanted = [f"upsd: {name}: {news}" for name in "abc" for news in ["data good", "driver connected"]]
+        assert comes(lambda: [line for line in sorted(server.journal().splitlines()) if "cannot connect" not in line] == wanted), server.journal()
         drivers[0].lose()
         drivers[0].listener.close()  # its file stays, and nobody listens
         assert comes(lambda: server.journal().endswith("upsd: a: driver lost\nupsd: a: " + REFUSED)), server.journal()
@@ -343,14 +343,14 @@ def a_silent_driver_is_pinged_and_goes_stale():
         assert good.ask(GET) == STATUS
 
 
-def data_that_a_driver_takes_back_are_told_once():
+def data_that_a_driver_takes_back_are_logged_once():
     with served() as (server, driver, good):
         driver.send(b"DATASTALE\nDATASTALE\n")
         assert comes(lambda: good.ask(GET) == b"ERR DATA-STALE\n")
         driver.send(b'SETINFO battery.charge "99"\nDATASTALE\n')
         driver.send(b"DATAOK\nDATAOK\n")
         logs(server, "data stale", "data good")
-        # Lost while they are stale, they are told as good once the driver has told all again.
+        # Lost while they are stale, they are logged as good once the driver has reported all again.
         driver.send(b"DATASTALE\n")
         assert comes(lambda: good.ask(GET) == b"ERR DATA-STALE\n")
         driver.lose()
@@ -358,7 +358,7 @@ def data_that_a_driver_takes_back_are_told_once():
         logs(server, "data stale", "driver lost", *NEWS)
 
 
-def each_change_of_the_status_is_told():
+def each_change_of_the_status_is_logged():
     with served() as (server, driver, good):
         for status in [b"OB", b"OB", b"OB LB", b"OL"]:
             driver.send(b'SETINFO ups.status "%s"\n' % status)
@@ -369,19 +369,19 @@ def each_change_of_the_status_is_told():
         logs(server, "status OB", "status OB LB", *["status OL"] * 2)
 
 
-def a_driver_that_never_reports_all_is_told_as_stale():
+def a_driver_that_never_reports_all_is_logged_as_stale():
     driver = Driver(path("slow.sock"))
     with begun(file("slow.conf", f"[su]\nsocket = {driver.path}\n"), "--users", path("users"), "--maxage", "3") as server:
         driver.accept()
         driver.send(b'SETINFO ups.status "OL"\n')
-        told = "upsd: su: driver connected\nupsd: su: status OL\nupsd: su: data stale\n"
+        wanted = "upsd: su: driver connected\nupsd: su: status OL\nupsd: su: data stale\n"
         for _ in range(8):
             time.sleep(0.7)
             driver.send(b"PONG\n")
-        assert server.journal() == told, server.journal()
+        assert server.journal() == wanted, server.journal()
         driver.send(READY)
-        told += "upsd: su: data good\n"
-        assert comes(lambda: server.journal() == told), server.journal()
+        wanted += "upsd: su: data good\n"
+        assert comes(lambda: server.journal() == wanted), server.journal()
     driver.close()
 
 
@@ -391,14 +391,14 @@ def each_line_has_its_priority_where_it_is_asked_for():
         driver.send(b"DATASTALE\n")
         assert comes(lambda: good.ask(GET) == b"ERR DATA-STALE\n")
         driver.lose()
-        told = [(6, line) for line in COME.splitlines()] + [
+        wanted = [(6, line) for line in COME.splitlines()] + [
             (6, "upsd: su: admin@127.0.0.1 logged in"),
             (5, "upsd: su: admin@127.0.0.1 ordered INSTCMD test.battery.start"),
             (2, "upsd: su: admin@127.0.0.1 ordered FSD: forced shutdown"),
             (6, "upsd: su: admin@127.0.0.1 was refused LOGIN: ALREADY-LOGGED-IN"),
             (4, "upsd: su: data stale"),
             (4, "upsd: su: driver lost")]
-        lines = [f"<{level}>{line}" for level, line in told]
+        lines = [f"<{level}>{line}" for level, line in wanted]
         assert comes(lambda: server.journal().splitlines()[:len(lines)] == lines), server.journal()
 
 
@@ -408,13 +408,13 @@ def come_and_go(driver):
             driver.accept().lose()
 
 
-def a_driver_that_comes_and_goes_is_told_once_a_minute():
+def a_driver_that_comes_and_goes_is_logged_once_a_minute():
     """It does so from the first case on."""
-    told = ["upsd: su: driver connected", "upsd: su: driver lost"] * 2 + ["upsd: su: driver connected"]
+    wanted = ["upsd: su: driver connected", "upsd: su: driver lost"] * 2 + ["upsd: su: driver connected"]
     assert comes(lambda: RESTLESS.journal().count("\n") > 5, 62), RESTLESS.journal()
     lines = RESTLESS.journal().splitlines()
     RESTLESS.close()
-    assert lines[:5] == told, lines
+    assert lines[:5] == wanted, lines
     assert lines[5].endswith(" times in a minute") and 30 < int(lines[5].split()[4]) < 61, lines
 
 
@@ -438,9 +438,9 @@ def the_sixty_fifth_client_is_closed():
 
 def sent_away(server):
     """How many clients the journal says were sent away: what came in one second is in one line."""
-    told = server.journal()[len(COME):].splitlines()
-    assert len(told) <= 3 and all(line.startswith("upsd: clients sent away for want of room: ") for line in told), told
-    return sum(int(line.split()[-1]) for line in told)
+    lines = server.journal()[len(COME):].splitlines()
+    assert len(lines) <= 3 and all(line.startswith("upsd: clients sent away for want of room: ") for line in lines), lines
+    return sum(int(line.split()[-1]) for line in lines)
 
 
 def stolen():
@@ -517,7 +517,7 @@ def what_clients_send_after_their_end_is_read():
         before = server.descriptors()
         early, late = server.client(), server.client()
         early.send(b"VER\nLOGOUT\n" + b"VER\n" * 100_000)
-        # Its end is told with the goodbye: its connection is closed a second later at the soonest.
+        # Its end is sent with the goodbye: its connection is closed a second later at the soonest.
         early.wire.settimeout(0.9)
         assert early.line() and early.up_to_end() == b"OK Goodbye\n"
         assert late.ask(b"LOGOUT\n") == b"OK Goodbye\n"
@@ -618,8 +618,8 @@ def a_driver_with_orders_at_each_moment_is_heard():
                 repeat(lambda: client.ask(b"SET VAR su ups.delay 30\n" * 20), 4)]  # fmt: skip
         assert comes(lambda: good.ask(b"GET VAR su battery.charge\n") != b'VAR su battery.charge "100"\n')
         while (now := time.monotonic() - begin) < 3:
-            told = int(good.ask(b"GET VAR su battery.charge\n").split(b'"')[1])
-            worst = max(worst, now - told / 1000)
+            reported = int(good.ask(b"GET VAR su battery.charge\n").split(b'"')[1])
+            worst = max(worst, now - reported / 1000)
             time.sleep(0.02)
         for process in busy:
             process.join()
@@ -641,10 +641,10 @@ def nobody_waits_long_beside_busy_clients_and_drivers():
             time.sleep(0.01)
         for other in others:
             other.join()
-        told = server.journal()
+        journal = server.journal()
     for driver in drivers:
         driver.close()
-    assert "stale" not in told, told
+    assert "stale" not in journal, journal
     assert 0 < worst < 0.5, f"the 64th client waited {worst:.3f} s"
     assert all(other.exitcode == 0 for other in others)
     return f"the longest wait was {worst * 1000:.1f} ms"
@@ -686,8 +686,8 @@ def nothing_grows():
 def it_starts_again_at_its_port_and_at_none_that_is_taken():
     with served() as (server, driver, good):
         words = ["--ups", path("su.conf"), "--users", path("users"), "--listen", f"127.0.0.1:{server.port}"]
-        told = f"upsd: cannot listen\nupsd: {words[-1]}: Address already in use (os error 98)\n"
-        assert BENCH.ends("serve", *words) == (1, b"", told.encode())
+        fault = f"upsd: cannot listen\nupsd: {words[-1]}: Address already in use (os error 98)\n"
+        assert BENCH.ends("serve", *words) == (1, b"", fault.encode())
         server.close()
         driver.lose()
         with begun(path("su.conf"), port=server.port) as again:

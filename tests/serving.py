@@ -47,14 +47,14 @@ class Driver:
         self.listener.listen(8)
         self.listener.settimeout(10)
 
-    def accept(self, told=None):
-        """The server connects, and asks for all; the driver tells it this."""
+    def accept(self, reported=None):
+        """The server connects, and asks for all; the driver reports this."""
         self.wire = self.listener.accept()[0]
         self.wire.settimeout(10)
         self.lines = self.wire.makefile("rb")
         assert self.line() == b"DUMPALL\n"
-        if told is not None:
-            self.wire.sendall(told + READY)
+        if reported is not None:
+            self.wire.sendall(reported + READY)
         return self
 
     def send(self, text):
@@ -216,8 +216,8 @@ class OtherServer(Server):
 
 
 @contextlib.contextmanager
-def served(folder, upsd, told=TWO, *words, env=None, errors=None):
-    """A server over the UPS `su`, its driver, which has told this, and a good client."""
+def served(folder, upsd, reported=TWO, *words, env=None, errors=None):
+    """A server over the UPS `su`, its driver, which has reported this, and a good client."""
     with contextlib.ExitStack() as stack:
         driver = Driver(os.path.join(folder, "su.sock"))
         stack.callback(driver.close)
@@ -226,7 +226,7 @@ def served(folder, upsd, told=TWO, *words, env=None, errors=None):
             out.write(f'[su]\ndesc = "Rack 1"\nsocket = {driver.path}\n')
         server = Server(upsd, ups, "--users", os.path.join(folder, "users"), *words, env=env, errors=errors)
         stack.callback(server.close)
-        driver.accept(told)
+        driver.accept(reported)
         good = server.client()
         assert comes(lambda: good.ask(b"GET VAR su ups.status\n").startswith(b"VAR"))
         yield server, driver, good

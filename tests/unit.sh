@@ -35,7 +35,7 @@ until [[ -S good && -S stale ]]; do sleep 0.05; done
 serve() {
     for ups in "$@"; do printf '[%s]\nsocket = %s\n' "$ups" "$folder/$ups"; done >upses.conf
     : >said
-    "$top/crates/upsd/out/upsd" serve --ups upses.conf --users users --listen 127.0.0.1:0 >said 2>told &
+    "$top/crates/upsd/out/upsd" serve --ups upses.conf --users users --listen 127.0.0.1:0 >said 2>journal &
     server=$!
     running+=("$server")
     until grep -q listening said; do sleep 0.05; done

@@ -3,7 +3,7 @@
 # bash-completion looks for the program's name.
 
 # Which words may stand there, one a line; FILE for a file, UPS for a UPS, VAR or CMD for what a UPS has, nothing where none
-# can be told. Given: the program, the word before, the subcommand of upsd, and the UPS that was named.
+# is known. Given: the program, the word before, the subcommand of upsd, and the UPS that was named.
 _voqarchay_words() {
     case $1:$2 in
     upsd:--ups | upsd:--users | upsd:--vars | upsd:--ids | upsd:--record) echo FILE ;;
