@@ -1,12 +1,16 @@
 #!/usr/bin/env python3
 """The built `upsd replay` and the plain server over 10,000 runs of random pieces from a client and a driver. A run is an `open`, pieces
 in a random order, and a `close`; many runs are in one script, over one server, so that a run begins where another one left the UPS's
-driver and the clock. Word: the seed, 1 unless given."""
+driver and the clock. Word: the seed, 1 unless given. And floods of each line, on real sockets."""
+import contextlib
+import os
 import random
 import sys
+import time
 
 from plain_server import LINE, QUEUE, VALUE, quoted
 from replaying import Bench, built, cases
+from serving import TWO, Driver, Server, comes, pouring
 
 BENCH = Bench("hostile", *built("upsd"))
 RUNS, IN_A_SCRIPT = 10_000, 250
@@ -28,6 +32,14 @@ OF_DRIVER = [[[b"SETINFO"], NAMES, VALUES]] * 2 + [
     [[b"SETFLAGS"], NAMES, [b"RW"]], [[b"SETFLAGS"], NAMES, [b"RW", b"rw"], [b"RW", b"STRING", b"NUMBER"]], [[b"SETAUX"], NAMES, NUMBERS],
     [[b"ADDCMD", b"ADDCMD", b"DELCMD", b"DELINFO"], NAMES], [[b"DUMPDONE\nDATAOK"]],
     [[b"DATASTALE", b"PONG", b"WHAT", b"", b"DUMPDONE", b"DATAOK", b"SETFLAGS a RW", b"SETFLAGS b RW BLUE"]]]  # fmt: skip
+# The lines of the floods, the yardstick first.
+FLOODS = [line + b"\n" for line in (
+    b"GET VAR big v2048", b"GET VAR big nope", b"GET TYPE big v2048", b"GET DESC big v2048", b"GET CMDDESC big c1", b"GET UPSDESC big",
+    b"GET NUMLOGINS big", b"GET TRACKING", b"GET TRACKING %036d" % 0, b"LIST UPS", b"LIST VAR big", b"LIST RW big", b"LIST CMD big",
+    b"LIST ENUM big v2048", b"LIST ENUM big v0001", b"LIST RANGE big v2048", b"LIST CLIENT big", b"SET VAR big v2048 255", b"SET VAR big v0001 x",
+    b"SET TRACKING ON", b"INSTCMD big c1", b"INSTCMD big x", b"LOGIN big", b"PRIMARY big", b"FSD big", b"FSD x", b"USERNAME x", b"PASSWORD x",
+    b"HELP", b"VER", b"NETVER", b"STARTTLS", b"x", b"")]  # fmt: skip
+MOMENT = 0.05  # in seconds
 
 
 class Pieces:
@@ -119,6 +131,54 @@ def random_pieces():
     for _ in range(RUNS // IN_A_SCRIPT):
         BENCH.agrees(pieces.script(), **FILES)
     return f"{RUNS} runs, seed {seed}"
+
+
+def worst_wait(server, drivers, line, count):
+    """How long a good client waits at most while so many clients send the line without pause. No UPS's data go stale."""
+    waits, open_before = [], server.descriptors()
+    good, *clients = [server.client() for _ in range(1 + count)]
+    for client in clients:
+        client.ask(b"USERNAME admin\nPASSWORD pw\n")
+    with pouring(clients, line * (LINE // len(line))):
+        end = time.monotonic() + 0.05
+        while len(waits) < 3 or time.monotonic() < end:
+            for driver in drivers:
+                driver.send(b"PONG\n")
+            begun = time.monotonic()
+            answers = good.ask(b"GET VAR su ups.status\nGET VAR big v0001\n")
+            waits.append(time.monotonic() - begun)
+            assert answers == b'VAR su ups.status "OL"\nVAR big v0001 "x"\n', (line, answers)
+    for client in [good, *clients]:
+        client.close()
+    assert comes(lambda: server.descriptors() <= open_before)
+    return max(waits)
+
+
+def is_fair(server, drivers, line, count):
+    """A good client waits no longer than a moment, or five times as long as beside a flood of GET VAR."""
+    wait = worst_wait(server, drivers, line, count)
+    return wait <= MOMENT or wait <= 5 * worst_wait(server, drivers, FLOODS[0], count)
+
+
+def no_flood_of_a_line_keeps_a_good_client_waiting():
+    """By 1 and by 40 clients. On a busy machine a wait is long at times, so each flood has three tries."""
+    names = [b"SETINFO v%04d x\n" % number for number in range(4096)] + [b"ADDCMD c%d\n" % number for number in range(256)]
+    values = [b"SETFLAGS v2048 RW\n", *(b"ADDENUM v2048 %d\n" % number for number in range(256))]
+    users = BENCH.file("admin", b"[admin]\npassword = pw\nactions = SET\nactions = FSD\ninstcmds = ALL\nupsmon primary\n")
+    with contextlib.ExitStack() as stack:
+        drivers = [Driver(f"{BENCH.folder.name}/{ups}") for ups in ("su", "big")]
+        list_of = "".join(f"[{os.path.basename(it.path)}]\nsocket = {it.path}\n" for it in drivers)
+        server = Server(BENCH.program, BENCH.file("two", list_of.encode()), "--users", users, "--maxage", "3")
+        for it in (*drivers, server):
+            stack.callback(it.close)
+        for driver, reported in zip(drivers, ([TWO], names + values)):
+            driver.accept(b"".join(reported))
+        good = server.client()
+        assert comes(lambda: drivers[1].send(b"PONG\n") or good.ask(b"GET VAR big v0001\n").startswith(b"VAR"))
+        unfair = [(line, count) for count in (1, 40) for line in FLOODS
+                  if not any(is_fair(server, drivers, line, count) for _ in range(3))]  # fmt: skip
+    assert not unfair, unfair
+    return f"{len(FLOODS)} lines"
 
 
 BENCH.run(globals())

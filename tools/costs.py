@@ -1,14 +1,16 @@
 #!/usr/bin/env python3
 """Measures what a request costs this server and NUT's, and prints the tables of docs/COSTS.md.
 
-It takes about ten minutes on a machine that does nothing else, and needs the built upsd and crates/netbench (`rt run` in each), NUT's
-upsd (Debian's nut-server) and valgrind. Speed is the median of rounds in which the servers take turns.
+It takes about 20 minutes on a machine that does nothing else, and needs the built upsd and crates/netbench (`rt run` in each), NUT's
+upsd (Debian's nut-server) and valgrind. Speed is the median of rounds in which the servers take turns. Words: speed, time, instructions
+or memory, if not all are measured.
 """
 import contextlib
 import os
 import pathlib
 import random
 import re
+import select
 import signal
 import statistics
 import subprocess
@@ -20,10 +22,11 @@ TOP = pathlib.Path(__file__).resolve().parent.parent
 sys.path.insert(0, str(TOP / "tests"))
 sys.dont_write_bytecode = True
 
-from serving import Driver, OtherServer  # noqa: E402
+from serving import Driver, OtherServer, pouring  # noqa: E402
 
 UPSD, NETBENCH = f"{TOP}/crates/upsd/out/upsd", f"{TOP}/crates/netbench/out/netbench"
 ROUNDS, SEED = 3, 20261127
+SECONDS = 4  # that a row of the times takes a round
 SIZES = {"small": (100, 10), "large": (4096, 256)}
 CALLGRIND = ["valgrind", "--tool=callgrind", "--callgrind-out-file=/dev/null"]
 COMMANDS = {
@@ -53,11 +56,11 @@ def served(kind, sizes, valgrind=()):
         yield server, drivers
 
 
-def until(server, ups, variable="ups.status"):
-    """Asks until the UPS has the variable. NUT's server answers before all is reported, by the status WAIT."""
+def until(server, ups, variable="ups.status", value=b"(?!WAIT)"):
+    """Asks until the UPS has the variable, with this value. NUT's server answers before all is reported, by the status WAIT."""
     client = server.client()
     client.wire.settimeout(60)
-    while not re.match(rb'VAR .* "(?!WAIT)', client.ask(f"GET VAR {ups} {variable}\n".encode())):
+    while not re.match(rb'VAR .* "' + value, client.ask(f"GET VAR {ups} {variable}\n".encode())):
         time.sleep(0.05)
     client.close()
 
@@ -94,13 +97,16 @@ def reporting(server, driver, times, size=(4096, 10)):
     until(server, "small", "last.one")
 
 
-def memory(kind):
-    with served(kind, SIZES) as (server, _):
-        idle = server.kilobytes()
-        for client in [server.client() for _ in range(60)]:
-            client.send(b"LIST VAR large\n" * 8)
+def memory(kind, clients, changes=False):
+    """Beside so many clients that ask for the long listing and read nothing. After each one the driver may change all its values."""
+    with served(kind, SIZES) as (server, drivers):
+        for number in range(clients):
+            server.client().send(b"LIST VAR large\n" * 8)
+            if changes:
+                drivers["large"].send(reports(*SIZES["large"])[1 - number % 2] + b"SETINFO round %d\n" % number)
+                until(server, "large", "round", b"%d" % number)
         time.sleep(2)
-        return {"no client": idle, "60 clients that stop within a listing": server.kilobytes()}
+        return server.kilobytes()
 
 
 def bench(port, ups):
@@ -130,6 +136,91 @@ def speed(kind):
     return found
 
 
+def waits(server, driver):
+    """How many microseconds it takes from just before a driver writes a new value, at random moments, until a client that asks for the
+    value without pause reads this one or a later one."""
+    driver.send(b'SETINFO battery.charge "0"\n')
+    until(server, "small", "battery.charge")
+    wire, get, written, found = server.client().wire, b"GET VAR small battery.charge\n", [], []
+    start = due = time.monotonic()
+    wire.send(get)
+    while not (len(found) == len(written) and due > start + SECONDS):
+        if (now := time.monotonic()) >= due:
+            driver.send(b'SETINFO battery.charge "%d"\n' % (len(written) + 1))
+            written.append(now)
+            due += random.uniform(0, 0.003) if due < start + SECONDS else 60
+        if select.select([wire], [], [], max(0, due - time.monotonic()))[0]:
+            value = int(re.search(rb'"(\d+)"', wire.recv(1 << 12))[1])
+            found += [(time.monotonic() - moment) * 1e6 for moment in written[len(found) : value]]
+            wire.send(get)
+    wire.close()
+    return found
+
+
+@contextlib.contextmanager
+def asked(server, rates, rate=0):
+    """62 clients of netbench ask while the block runs, so often a second, or without pause. The last of the rates is how often that was."""
+    words = ["load", SECONDS + 1, 62, rate, 1, "GET VAR large v0050\n"]
+    with subprocess.Popen([NETBENCH, f"127.0.0.1:{server.port}", "small", *map(str, words)], stdout=subprocess.PIPE, text=True) as process:
+        time.sleep(0.5)
+        yield
+        rates.append(int(process.communicate()[0].split()[0]))
+
+
+@contextlib.contextmanager
+def beside(peers, text, floods=True):
+    """These clients or this driver send the text on and on while the block runs; or once, and read nothing."""
+    with pouring(peers, text) if floods else contextlib.nullcontext():
+        for peer in peers if not floods else ():
+            peer.send(text)
+        time.sleep(0.5 if floods else 2)
+        yield
+    for peer in peers:
+        peer.send(b"\n") if isinstance(peer, Driver) else peer.close()
+
+
+def clients(server, count):
+    return [server.client() for _ in range(count)]
+
+
+LONG, RW, CMD = b"LIST VAR large\n", b"LIST RW large\n" * 140, b"LIST CMD large\n" * 128
+MEANWHILE = {
+    "nothing": lambda *_: contextlib.nullcontext(),
+    "62 clients ask GET VAR without pause": lambda server, _, rates: asked(server, rates),
+    "62 clients ask GET VAR, half as often as the slower server can": lambda server, _, rates: asked(server, rates, min(rates[:2]) // 2),
+    "60 clients stopped within a listing": lambda server, *_: beside(clients(server, 60), LONG, floods=False),
+    "another driver writes without pause": lambda _, drivers, __: beside([drivers["large"]], reports(*SIZES["large"])[0]),
+} | {
+    f"{count} client{'s ask' if count > 1 else ' asks'} {text[:text.index(b' large')].decode()} without pause": lambda server, *_, text=text, count=count: beside(clients(server, count), text)
+    for text in (RW, CMD) for count in (1, 10, 40)
+}  # fmt: skip
+
+
+def times():
+    """What is found of each server meanwhile, in rounds in which they take turns."""
+    found = {what: {kind: [] for kind in COMMANDS} for what in MEANWHILE}
+    with contextlib.ExitStack() as stack:
+        servers = {kind: stack.enter_context(served(kind, SIZES)) for kind in COMMANDS}
+        for _, drivers in servers.values():
+            drivers["large"].send(b"".join(b"ADDCMD c%d\n" % number for number in range(1024)))
+        for _ in range(ROUNDS):
+            rates = []
+            for what, busy in MEANWHILE.items():
+                for kind, (server, drivers) in servers.items():
+                    with busy(server, drivers, rates):
+                        found[what][kind] += waits(server, drivers["small"])
+    return found
+
+
+def print_times():
+    print("meanwhile | ours: half/99 of 100/worst | NUT's | 99 of 100 better by", "---|---:|---:|---:", sep="\n")
+    for what, of in times().items():
+        parts = [[sorted(waits)[len(waits) * part // 100] for part in (50, 99)] + [max(waits)] for waits in of.values()]
+        shown = ["/".join(f"{part:,.0f}" for part in of_one) for of_one in parts]
+        print(f"{what} | {' | '.join(shown)} | {parts[1][1] / parts[0][1]:.2f}")
+    print(flush=True)
+
+
 def machine():
     cpu = re.search(r"model name\s*: (.*)", pathlib.Path("/proc/cpuinfo").read_text())[1]
     nut = subprocess.run(["/lib/nut/upsd", "-V"], capture_output=True, text=True).stdout.split("\n")[0].split()[-1]
@@ -145,10 +236,12 @@ def print_table(unit, rows):
     print(flush=True)
 
 
-def main():
-    print(f"{machine()}.\n")
+def print_speed():
     rounds = [[speed(kind) for kind in COMMANDS] for _ in range(ROUNDS)]
     print_table("a second", [(what, *(int(statistics.median(found[what] for found in of)) for of in zip(*rounds))) for what in rounds[0][0]])
+
+
+def print_instructions():
     get, got = b"GET VAR small v2048\n", b'VAR small v2048 "xxxxxxxxxx"\n'
     print_table("instructions", [(what, *(instructions(kind, *words) for kind in COMMANDS)) for what, *words in (
         ("GET VAR, 1 connection", asking(1, get, got), 64, 704, 640),
@@ -156,8 +249,15 @@ def main():
         ("an item of LIST VAR", asking(1, b"LIST VAR small\n", b"END LIST VAR small\n"), 1, 3, 2 * 4097),
         ("a line of a driver", reporting, 1, 3, 2 * 4096),
     )])
-    ours, nut = (memory(kind) for kind in COMMANDS)
-    print_table("KiB", [(what, ours[what], nut[what]) for what in ours])
 
 
-main()
+def print_memory():
+    print_table("KiB", [(what, *(memory(kind, count) for kind in COMMANDS))
+                        for what, count in (("no client", 0), ("60 clients that stop within a listing", 60))])  # fmt: skip
+    print(f"60 clients that stop, while the driver changes all values between one and the next: {memory('ours', 60, changes=True):,} KiB")
+
+
+print(f"{machine()}.\n")
+PARTS = {"speed": print_speed, "time": print_times, "instructions": print_instructions, "memory": print_memory}
+for part in sys.argv[1:] or PARTS:
+    PARTS[part]()

@@ -4,6 +4,9 @@ use anyhow::Result;
 use nutcore::{ClientId, Fault};
 use std::alloc::Global;
 
+/// How many variables the UPS has.
+const VARIABLES: u32 = 4096;
+
 /// The length of a short value, in bytes.
 pub const SHORT: usize = 10;
 
@@ -35,7 +38,15 @@ pub enum Load {
 
 /// Does the load on a new server whose variables have values of so many bytes.
 pub fn run(alloc: Global, width: usize, load: Load) -> Result<u64> {
-    Sample::new(alloc, width)?.run(alloc, load)
+    Sample::new(alloc, VARIABLES, width)?.run(alloc, load)
+}
+
+/// Asks this line so often at a new server. Its UPS has so many variables, of which clients may set
+/// so many.
+pub fn ask(alloc: Global, variables: u32, rw: u32, count: u32, line: &str) -> Result<u64> {
+    let mut sample = Sample::new(alloc, variables, SHORT)?;
+    sample.let_set(variables, rw)?;
+    sample.get_values(format!(in alloc; "{line}\n")?.as_bytes(), count)
 }
 
 impl Sample {
@@ -79,7 +90,7 @@ impl Sample {
     }
 
     /// A session that may set variables, and a driver that is owed nothing.
-    fn open_to_set(&mut self) -> Result<ClientId> {
+    pub fn open_to_set(&mut self) -> Result<ClientId> {
         let client = self.open()?;
         self.send(client, b"USERNAME admin\nPASSWORD pw\n")?;
         self.take(client)?;

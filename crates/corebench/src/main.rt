@@ -1,4 +1,4 @@
-//! What requests cost a server of one UPS with 4,096 variables.
+//! What requests cost a server of one UPS with thousands of variables.
 //!
 //! With no words it does a little of each load, and prints how many bytes clients took. It also
 //! prints what no clause says of the server: that with ample memory its calls are done, what they
@@ -9,9 +9,11 @@
 mod costs;
 mod loads;
 mod sample;
+mod turns;
 
 use crate::costs::{print_costs, print_faults, print_run};
-use crate::loads::{Load, SHORT, run};
+use crate::loads::{Load, SHORT, ask, run};
+use crate::turns::{Sender, print_turns};
 use anyhow::{Error, Result};
 use std::alloc::Global;
 use std::env;
@@ -20,9 +22,14 @@ fn main(rt: HostRuntime) -> Result<()> {
     let words: Vec<String> = env::args(&rt)?.skip(1).collect(rt.alloc())?;
     if words.is_empty() {
         print_a_little(&rt, rt.alloc())?;
+        print_a_turn_each(&rt, rt.alloc())?;
         print_costs(&rt, rt.alloc())?;
         print_run(&rt, rt.alloc())?;
         return print_faults(&rt);
+    }
+    if let Some(sender) = read_sender(word(&words, 0)?) {
+        let lines = words.get(2..).unwrap_or(&[]);
+        return print_turns(&rt, rt.alloc(), sender, number(&words, 1)?, lines);
     }
     print_taken(&rt, rt.alloc(), &words)
 }
@@ -48,10 +55,42 @@ fn print_a_little(rt: &impl Print, alloc: Global) -> Result<()> {
     Ok(())
 }
 
+/// Has a turn of each sender.
+fn print_a_turn_each(rt: &impl Print, alloc: Global) -> Result<()> {
+    print_turns(
+        rt,
+        alloc,
+        Sender::Client,
+        2049,
+        &[format!(in alloc; "GET VAR su v2048")?],
+    )?;
+    let line = [format!(in alloc; "SETINFO v2048 12")?];
+    print_turns(rt, alloc, Sender::Driver, 2049, &line)?;
+    print_turns(rt, alloc, Sender::DriverUnderListing, 2049, &line)
+}
+
+/// The sender of this name.
+fn read_sender(word: &str) -> Option<Sender> {
+    match word {
+        "client" => Some(Sender::Client),
+        "driver" => Some(Sender::Driver),
+        "driver-under-listing" => Some(Sender::DriverUnderListing),
+        _ => None,
+    }
+}
+
 /// Does the load of these words, and prints how many bytes were taken.
 fn print_taken(rt: &impl Print, alloc: Global, words: &[String]) -> Result<()> {
-    let (width, load) = read_load(words)?;
-    let taken = run(alloc, width, load)?;
+    let taken = match word(words, 0)? {
+        "ask" => {
+            let (variables, rw) = (number(words, 1)?, number(words, 2)?);
+            ask(alloc, variables, rw, number(words, 3)?, word(words, 4)?)?
+        }
+        _ => {
+            let (width, load) = read_load(words)?;
+            run(alloc, width, load)?
+        }
+    };
     println!(rt; "{taken} bytes taken")?;
     Ok(())
 }
@@ -66,7 +105,9 @@ fn read_load(words: &[String]) -> Result<(usize, Load)> {
         "list" => Ok((number(words, 1)? as usize, Load::List(number(words, 2)?))),
         "report" => Ok((number(words, 1)? as usize, read_report(words)?)),
         "share" => Ok((SHORT, read_share(words)?)),
-        _ => Err(Error::msg("get, pipeline, flood, set, list, report or share")),
+        _ => Err(Error::msg(
+            "client, driver, driver-under-listing, ask, get, pipeline, flood, set, list, report or share",
+        )),
     }
 }
 

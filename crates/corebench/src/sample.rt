@@ -1,4 +1,4 @@
-//! A server whose UPS has 4,096 variables.
+//! A server whose UPS has thousands of variables.
 use anyhow::{Error, Result};
 use nutcore::{ClientId, Descriptions, Fault, MaxAge, Server, UpsId, UpsList, Users};
 use nutwords::{Address, UpsName, VALUE_LIMIT};
@@ -8,27 +8,27 @@ use std::fmt::Write;
 /// The only UPS.
 pub const SU: UpsId = UpsId { place: 0 };
 
-/// How many variables the UPS has.
-pub const VARIABLES: u32 = 4096;
-
 /// How many bytes a server reads of a driver at a time.
 const DRIVER_READ: usize = 512;
 
 /// How many bytes a line of a driver has beside its value.
 const AROUND_A_VALUE: usize = 17;
 
-/// One user, who may set variables.
+/// One user, who may do everything.
 const USERS: &[u8] = b"[admin]
 password = pw
 actions = SET
+actions = FSD
+instcmds = ALL
+upsmon primary
 ";
 
 /// A server of one UPS, and what its driver reports of each variable, a line each of the same
 /// length.
 #[derive(Drop)]
 pub struct Sample {
-    alloc: Global,
-    server: Server,
+    pub alloc: Global,
+    pub server: Server,
     lines: Vec<u8>,
     line_length: usize,
 }
@@ -60,11 +60,11 @@ fn push_line(lines: &mut Vec<u8>, name: &[u8], width: usize) -> Result<()> {
     Ok(())
 }
 
-/// What a driver reports of each variable.
-fn all_lines(alloc: Global, width: usize) -> Result<Vec<u8>> {
+/// What a driver reports of so many variables.
+fn all_lines(alloc: Global, variables: u32, width: usize) -> Result<Vec<u8>> {
     let mut lines = Vec::new(alloc);
     let mut name = String::new(alloc);
-    for number in 0..VARIABLES {
+    for number in 0..variables {
         write_name(&mut name, number)?;
         push_line(&mut lines, name.as_bytes(), width)?;
     }
@@ -72,10 +72,10 @@ fn all_lines(alloc: Global, width: usize) -> Result<Vec<u8>> {
 }
 
 impl Sample {
-    /// A server whose UPS `su` has the variables `v0000` to `v4095`, with values of so many bytes.
-    /// Clients may set `v2048`.
-    pub fn new(alloc: Global, width: usize) -> Result<Sample> {
-        let lines = all_lines(alloc, width)?;
+    /// A server whose UPS `su` has so many variables, from `v0000` on, with values of so many
+    /// bytes. Clients may set `v2048`.
+    pub fn new(alloc: Global, variables: u32, width: usize) -> Result<Sample> {
+        let lines = all_lines(alloc, variables, width)?;
         let mut sample = Sample {
             alloc,
             server: new_server(alloc)?,
@@ -97,6 +97,19 @@ impl Sample {
     /// The driver connects.
     fn connect(&mut self) -> Result<()> {
         self.server.driver_up(SU)?;
+        Ok(())
+    }
+
+    /// Clients may set so many of these variables, which lie far apart, and no other.
+    pub fn let_set(&mut self, variables: u32, count: u32) -> Result<()> {
+        self.driver_sends(b"SETFLAGS v2048 STRING\n")?;
+        let (mut line, mut name) = (String::new(self.alloc), String::new(self.alloc));
+        for number in 0..count {
+            line.clear();
+            write_name(&mut name, number.saturating_mul(variables / count.max(1)))?;
+            writeln!(line, "SETFLAGS {name} RW")?;
+            self.driver_sends(line.as_bytes())?;
+        }
         Ok(())
     }
 

@@ -1,6 +1,6 @@
 //! The map of nutmap, and a version of it.
-use crate::entries::{push_entries, push_pieces};
-use crate::kept::Kept;
+use crate::entries::{push_entries, push_marked, push_pieces};
+use crate::kept::{Held, Kept};
 use crate::row::{Row, natural32, parted};
 use crate::shown::{push_number, push_yes};
 use nutmap::{Map, Meter, laws};
@@ -18,9 +18,13 @@ pub fn push_answer(
         "map_set" => push_set(answer, kept, row.text)?,
         "map_change" => push_change_in_place(answer, kept, row.text)?,
         "map_remove" => push_value(answer, removed(kept, natural32(row.text))?)?,
-        "map_get" => push_value(answer, kept.map.get(&(natural32(row.text))).copied())?,
+        "map_get" => push_value(
+            answer,
+            kept.map.get(&natural32(row.text)).map(|held| held.number),
+        )?,
         "map_made" => push_number(answer, kept.meter.made())?,
         "map_entries" => push_entries(answer, &kept.map)?,
+        "map_marked" => push_marked(answer, &kept.map)?,
         "map_pieces" => push_pieces(answer, &kept.map)?,
         _ => return push_of_versions(answer, kept, row),
     }
@@ -49,7 +53,7 @@ fn fill(kept: &mut Kept, len: u32) -> Result<(), AllocError> {
     kept.map = Map::new(kept.alloc);
     kept.meter = Meter::new();
     for key in 0..len {
-        let _ = kept.map.insert(key, key, &mut kept.meter)?;
+        let _ = kept.map.insert(key, Held::of(key), &mut kept.meter)?;
     }
     Ok(())
 }
@@ -74,7 +78,7 @@ fn push_change_in_place(
     let (key, value) = (natural32(key), natural32(value));
     let is_changed = kept
         .map
-        .change_in_place(&key, |held| *held = value, &mut kept.meter);
+        .change_in_place(&key, |held| held.number = value, &mut kept.meter);
     push_yes(answer, is_changed)
 }
 
@@ -84,17 +88,17 @@ fn removed(kept: &mut Kept, key: u32) -> Result<Option<u32>, AllocError> {
 
 /// Gives the key this value, or takes it out where there is none. Answers what value it had.
 fn changed(
-    map: &mut Map<u32, u32>,
+    map: &mut Map<u32, Held>,
     key: u32,
     value: Option<u32>,
     meter: &mut Meter,
 ) -> Result<Option<u32>, AllocError> {
     let before = match value {
-        Some(value) => map.insert(key, value, meter)?,
+        Some(value) => map.insert(key, Held::of(value), meter)?,
         None => map.remove(&key, meter)?,
     };
     match before {
-        Some(value) => Ok(Some(*value)),
+        Some(held) => Ok(Some(held.number)),
         None => Ok(None),
     }
 }
@@ -110,28 +114,35 @@ fn push_value(answer: &mut String, value: Option<u32>) -> Result<(), AllocError>
 fn push_outlived(answer: &mut String, kept: &mut Kept, key: u32) -> Result<(), AllocError> {
     let value = taken_out(&kept.map, key)?;
     kept.map = Map::new(kept.alloc);
-    push_value(answer, value.as_deref().copied())
+    push_value(answer, value.map(|held| held.number))
 }
 
 /// What a version of the map had at the key that was taken out of it.
-fn taken_out(map: &Map<u32, u32>, key: u32) -> Result<Option<Rc<u32>>, AllocError> {
+fn taken_out(map: &Map<u32, Held>, key: u32) -> Result<Option<Rc<Held>>, AllocError> {
     map.share()?.remove(&key, &mut Meter::new())
 }
 
 /// The version that the law of versions gives, of a map into which 5 comes and out of which 1 is
 /// taken.
 fn set_apart(kept: &mut Kept) -> Result<(), AllocError> {
-    kept.map_version = laws::versions_are_apart(&mut kept.map, 5, 50, &1, &mut kept.meter)?;
+    kept.map_version = laws::versions_are_apart(
+        &mut kept.map,
+        5,
+        Held::of(50),
+        &1,
+        &mut kept.meter,
+    )?;
     Ok(())
 }
 
 fn call_laws() {
-    laws::insert_changes_one_key::<u32, u32>();
-    laws::remove_changes_one_key::<u32, u32>();
-    laws::changes_keep_keys_rising::<u32, u32>();
-    laws::changes_count_one_entry::<u32, u32>();
-    laws::after_is_next::<u32, u32>();
-    laws::after_walks_the_entries::<u32, u32>();
+    laws::insert_changes_one_key::<u32, Held>();
+    laws::remove_changes_one_key::<u32, Held>();
+    laws::changes_keep_keys_rising::<u32, Held>();
+    laws::changes_count_one_entry::<u32, Held>();
+    laws::after_is_next::<u32, Held>();
+    laws::after_walks_the_entries::<u32, Held>();
+    laws::marked_after_walks_the_marked_entries::<u32, Held>();
     laws::digits_are_fewest();
     laws::most_nodes_by_size();
 }

@@ -70,15 +70,20 @@ impl Connection {
         self.stream.write_all(text)
     }
 
-    /// Reads so many answers of one line.
+    /// Reads so many answers of one line, none of which is an error.
     pub fn take_answers(&mut self, count: usize) -> io::Result<()> {
+        self.take_lines(count, false)
+    }
+
+    /// Reads so many lines. Unless there may be errors, no piece begins with one.
+    pub fn take_lines(&mut self, count: usize, with_errors: bool) -> io::Result<()> {
         let mut left = count;
         for _ in 0..u64::MAX {
             if left == 0 {
                 return Ok(());
             }
             let piece = self.take_piece()?;
-            if piece.starts_with(b"ERR") {
+            if !with_errors && piece.starts_with(b"ERR") {
                 return Err(io::Error::from(ErrorKind::InvalidData));
             }
             let lines = piece.iter().filter(|b| **b == b'\n').count();

@@ -1,7 +1,7 @@
 //! What a server is asked to do, and what a client sees of it.
 use crate::connection::{Connection, Server};
 use std::io;
-use std::time::Instant;
+use std::time::{Clock, Duration, Instant};
 
 /// How long a client waited for its answers, in microseconds.
 #[derive(Clone, Copy)]
@@ -41,6 +41,55 @@ fn take_answers(clients: &mut [Connection], depth: usize, is_backward: bool) -> 
     for place in 0..clients.len() {
         let next = if is_backward { last - place } else { place };
         clients[next].take_answers(depth)?;
+    }
+    Ok(())
+}
+
+/// What clients ask on and on, each of them again once it has its answers.
+#[derive(Drop)]
+pub struct Asking<'a> {
+    pub text: &'a [u8],
+    /// How many lines answer it.
+    pub lines: usize,
+    /// How often it is asked a second, by all clients; 0 where it is asked as often as can be.
+    pub rate: u64,
+    /// For how long.
+    pub time: Duration,
+}
+
+/// These clients ask in turn. Answers how often that was.
+pub fn ask_on(
+    rt: &HostRuntime,
+    clients: &mut [Connection],
+    asking: &Asking<'_>,
+) -> io::Result<u64> {
+    let start = Instant::now(rt)?;
+    let count = clients.len().max(1) as u64;
+    for number in 0..u64::MAX {
+        let Some(client) = clients.get_mut((number % count) as usize) else {
+            return Ok(0);
+        };
+        if number >= count {
+            client.take_lines(asking.lines, true)?;
+        }
+        let nanos = number
+            .saturating_mul(1_000_000_000)
+            .checked_div(asking.rate);
+        wait(rt, start, Duration::from_nanos(nanos.unwrap_or(0)))?;
+        if start.elapsed(rt)? >= asking.time {
+            return Ok(number);
+        }
+        client.send(asking.text)?;
+    }
+    Ok(u64::MAX)
+}
+
+/// Waits until so long after the start. It doesn't sleep, since that takes longer than it is asked.
+fn wait<R: Clock>(rt: &R, start: Instant, time: Duration) -> io::Result<()> {
+    for _ in 0..u64::MAX {
+        if start.elapsed(rt)? >= time {
+            break;
+        }
     }
     Ok(())
 }

@@ -1,19 +1,21 @@
 //! Measures a UPS server over the network, by nothing but the protocol: requests and listings a
 //! second, and how long a good client waits, by itself and beside slow ones. With a third word it
-//! measures only how long a client waits by itself. `flood.py` beside it is the driver of that UPS,
-//! and never pauses.
+//! measures only how long a client waits by itself. As a load so many clients ask a text, which so
+//! many lines answer, so often a second in all, or on and on. `flood.py` beside it is the driver of
+//! that UPS, and never pauses.
 #![tactic(auto)]
 
 mod connection;
 mod loads;
 
 use crate::connection::{Connection, Server};
-use crate::loads::{Waits, gets, leave, lists, lists_anew, slow_readers, waits_of};
+use crate::loads::{Asking, Waits, ask_on, gets, leave, lists, lists_anew, slow_readers, waits_of};
+use std::io::ErrorKind;
 use std::time::{Duration, Instant};
 use std::{env, io};
 
 /// What is printed where the words are others.
-const USAGE: &str = "usage: netbench HOST:PORT UPS [waits]";
+const USAGE: &str = "usage: netbench HOST:PORT UPS [waits | load SECONDS CLIENTS RATE LINES TEXT]";
 
 /// How many requests each load has.
 const REQUESTS: usize = 100_000;
@@ -41,8 +43,31 @@ fn main(rt: HostRuntime) -> io::Result<()> {
             let server = Server::new(rt.alloc(), address.as_str(), ups.as_str())?;
             client_alone(&rt, &server)
         }
+        [_, address, ups, load, seconds, clients, rate, lines, text] if load.as_str() == "load" => {
+            let server = Server::new(rt.alloc(), address.as_str(), ups.as_str())?;
+            let mut clients = server.connections(&rt, number(clients)? as usize)?;
+            let asking = Asking {
+                text: text.as_bytes(),
+                lines: number(lines)? as usize,
+                rate: number(rate)?,
+                time: Duration::from_secs(number(seconds)?),
+            };
+            print_load(&rt, &mut clients, &asking)
+        }
         _ => println!(rt; "{USAGE}"),
     }
+}
+
+fn number(word: &String) -> io::Result<u64> {
+    let error = io::Error::from(ErrorKind::InvalidInput);
+    word.as_str().parse::<u64>().or(Err(error))
+}
+
+/// How often these clients ask.
+fn print_load(rt: &HostRuntime, clients: &mut [Connection], asking: &Asking<'_>) -> io::Result<()> {
+    let start = Instant::now(rt)?;
+    let asked = ask_on(rt, clients, asking)?;
+    println!(rt; "{} a second", a_second(asked as usize, start.elapsed(rt)?))
 }
 
 fn measure_all(rt: &HostRuntime, server: &Server) -> io::Result<()> {

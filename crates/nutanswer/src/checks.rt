@@ -7,7 +7,7 @@ ghost use Rattle.nutanswer.specs.Orders.{instcmd_right, is_short_enough, is_list
 ghost use Rattle.nutanswer.specs.Promises.{known_ups, known_variable, known_command, found, live_ups, live_variable, live_command, settable};
 
 use crate::{Asker, Peers, UpsView, View};
-use nutdriver::{Range, Variable, read_number};
+use nutdriver::{EnumValue, Range, Variable, read_number};
 use nutparse::{Checked, ErrWord, UpsWord, ValueWord};
 use nutusers::{Right, UpsId};
 use nutwords::{Name, UpsName, Value};
@@ -151,7 +151,7 @@ fn is_short_enough(variable: &Variable, value: &[u8]) -> bool
 }
 
 /// Whether the value is among these, where there are any.
-fn is_listed(values: &[Value], value: &[u8]) -> bool
+fn is_listed(values: &[EnumValue], value: &[u8]) -> bool
     ensures { result ≡ is_listed values.now value.now }
 {
     values.is_empty() || values.iter().any(|listed| listed.as_bytes() == value)

@@ -2,9 +2,8 @@
 ghost use Rattle.std.specs.Prelude.{◌≡◌, ◌≤◌, length, IfOk};
 ghost use Rattle.nutdriver.specs.Kind.{plain};
 
-use crate::lists::Lists;
+use crate::lists::{EnumValue, Lists};
 use crate::{ENUM_LIMIT, Flags, RANGE_LIMIT, Range};
-use nutwords::Value;
 use std::alloc::{AllocError, Global};
 use std::marker::Model;
 use std::rc::Rc;
@@ -40,7 +39,7 @@ impl Kind {
     }
 
     /// The enum values.
-    pub(crate) fn enum_values(&self) -> &[Value]
+    pub(crate) fn enum_values(&self) -> &[EnumValue]
         ensures value { result.now ≡ self.now.lists.enum_values }
         ensures few { length result.now ≤ ENUM_LIMIT }
     {
@@ -72,7 +71,7 @@ impl Kind {
         })
     }
 
-    /// Equal lists, which share nothing with its own.
+    /// Equal lists, which share their enum values with its own.
     pub(crate) fn copied_lists(&self, alloc: Global) -> Result<Lists, AllocError>
         ensures { IfOk result (λ copy. copy ≡ self.now.lists) }
     {

@@ -1,14 +1,15 @@
 //! A variable of a UPS.
 ghost use Rattle.std.specs.Prelude.{◌≡◌, ◌≤◌, length, IfOk, IsTrue};
 ghost use Rattle.nutwords.specs.Reading.{is_value};
-ghost use Rattle.nutdriver.specs.Variable.{VariableState, with_value, with_aux, with_flags, add_enum, delete_enum, add_range, delete_range};
+ghost use Rattle.nutdriver.specs.Variable.{VariableState, with_value, with_aux, with_flags, has_value, add_enum, delete_enum, add_range, delete_range};
 ghost use Rattle.nutdriver.specs.Kind.{variable_of, with_kind, with_lists};
 ghost use Rattle.nutdriver.specs.Promises.{AnswersChange, variable_step};
 
 use crate::kept::KeptValue;
 use crate::kind::Kind;
-use crate::lists::{Lists, take_range_out, take_value_out};
+use crate::lists::{EnumValue, Lists, take_range_out, take_value_out};
 use crate::{DriverFault, DriverLine, ENUM_LIMIT, Flags, RANGE_LIMIT, Range, SpelledValue};
+use nutmap::Marked;
 use nutwords::Value;
 use std::alloc::{AllocError, Global};
 use std::marker::Model;
@@ -37,6 +38,15 @@ impl Model for Variable {
     ghost Value = { VariableState };
 
     ghost view = { λ v. variable_of v.value v.kind.value };
+}
+
+/// The variables that clients may set are marked (RFC 9271: LIST RW).
+impl Marked for Variable {
+    ghost marked = { λ v. v.flags.rw };
+
+    fn is_marked(&self) -> bool {
+        self.kind.flags.rw
+    }
 }
 
 impl Variable {
@@ -79,7 +89,7 @@ impl Variable {
 
     /// The values that it may have, in the order in which the driver added them. Where there are
     /// none, any will do.
-    pub fn enum_values(&self) -> &[Value]
+    pub fn enum_values(&self) -> &[EnumValue]
         ensures value { result.now ≡ self.now.enum_values }
         ensures few { length result.now ≤ ENUM_LIMIT }
     {
@@ -161,18 +171,28 @@ impl Variable {
         self.of_kind(Kind { flags, ..kind })
     }
 
+    /// Whether it has the enum value.
+    fn has_enum_value(&self, value: &Value) -> bool
+        ensures { result ≡ has_value self.now.enum_values value.now }
+    {
+        let values = self.enum_values();
+        values
+            .iter()
+            .any(|held| held.as_bytes() == value.as_bytes())
+    }
+
     /// The variable with one more enum value, unless it has it.
     fn add_enum(&self, value: &Value) -> Change
         ensures { AnswersChange (add_enum value.now self.now) result }
     {
-        if self.enum_values().contains(value) {
+        if self.has_enum_value(value) {
             return Ok(None);
         }
         if self.enum_values().len() >= ENUM_LIMIT {
             return Err(DriverFault::Full);
         }
         let mut lists = self.kind.copied_lists(self.alloc)?;
-        lists.enum_values.push(value.copied())?;
+        lists.enum_values.push(EnumValue::new(self.alloc, value)?)?;
         self.with_lists(lists)
     }
 
@@ -180,7 +200,7 @@ impl Variable {
     fn delete_enum(&self, value: &Value) -> Change
         ensures { AnswersChange (delete_enum value.now self.now) result }
     {
-        if !self.enum_values().contains(value) {
+        if !self.has_enum_value(value) {
             return Err(DriverFault::NoSuchItem);
         }
         let mut lists = self.kind.copied_lists(self.alloc)?;

@@ -1,18 +1,24 @@
 -- The first of the items that are left.
 use Rattle.std.proofs.Common.{◌≡◌, ℕ, Bool, List, [], ◌∷◌, Option, Some, None, refl, sym, ap, ◌∙◌, arith}
-use Rattle.std.specs.Prelude.{map, filter, MatchOption}
+use Rattle.std.specs.Prelude.{map, filter, codes, MatchOption}
 use Rattle.std.specs.Map.{keys_of}
 use Rattle.std.specs.Ordering.{is_lt}
 use Rattle.std.specs.declared.cmp.Ordering.{Ordering}
 use Rattle.nutwords.specs.Frame.{line_of}
 use Rattle.nutmap.specs.Entries.{entries_after, entry_after}
+use Rattle.nutmap.specs.Marked.{marked_after}
 use Rattle.nutdriver.specs.Tree.{TreeState, byte_order}
+use Rattle.nutdriver.specs.Variable.{VariableState}
 use Rattle.nutlisting.specs.declared.listing.Content.{Content}
-use Rattle.nutlisting.specs.declared.listing.Content.TheVariants.{Commands}
+use Rattle.nutlisting.specs.declared.listing.Content.TheVariants.{Commands, Rw}
 use Rattle.nutlisting.specs.declared.listing.stage.Stage.TheVariants.{Names}
-use Rattle.nutlisting.specs.Items.{command_item}
+use Rattle.nutlisting.specs.Items.{command_item, variable_item, is_rw}
 use Rattle.nutlisting.specs.Lines.{IsWholeLine}
 use Rattle.nutlisting.specs.Stages.{IsFirst, items_past, names_after}
+
+-- clients may set the variable
+abbrev pub may_be_set : VariableState → Bool
+may_be_set variable = variable.flags.rw
 
 pub first_of : {E : Type 0} (item : E → List (List ℕ)) (all others : List E) (e : E) (line : List ℕ) → all ≡ e ∷ others → line ≡ line_of (item e) → IsWholeLine line → IsFirst (map item all) line (map item others)
 first_of item all others e line s l w = record {
@@ -51,3 +57,13 @@ module _ (content : Content) (ups : List ℕ) (tree : TreeState) (last : Option 
   command_first line e walks entry text whole =
       rw (commands_past last, commands_past (Some e.0))
       (first_of (command_item ups) _ _ e.0 line (ap keys_of (walks_on byte_order es last e walks entry)) text whole)
+
+-- the variables that clients may set, after a name, as the listing has them
+pub rw_first : (content : Content) (ups : List ℕ) (fsd : Bool) (tree : TreeState) (last : Option (List ℕ)) (line : List ℕ) (e : List ℕ × VariableState) → content ≡ Rw ups fsd tree
+    → MatchOption (marked_after may_be_set byte_order tree.variables last) (filter is_rw (entries_after byte_order tree.variables last) ≡ [])
+    (λ next. filter is_rw (entries_after byte_order tree.variables last) ≡ next ∷ filter is_rw (entries_after byte_order tree.variables (Some next.0)))
+    → marked_after may_be_set byte_order tree.variables last ≡ Some e
+    → line ≡ line_of (variable_item (codes "RW") ups fsd e) → IsWholeLine line
+    → IsFirst (items_past content (Names, last)) line (items_past content (Names, Some e.0))
+rw_first content ups fsd tree last line e is walks entry text whole =
+    rw is (first_of (variable_item (codes "RW") ups fsd) _ _ e line (rw entry at walks) text whole)

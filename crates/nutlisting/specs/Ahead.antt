@@ -4,7 +4,7 @@ use Rattle.nutmap.specs.Entries.{entries_after}
 use Rattle.nutdriver.specs.Tree.{byte_order}
 use Rattle.nutdriver.specs.Variable.{VariableState}
 use Rattle.nutlisting.specs.declared.listing.Content.{Content}
-use Rattle.nutlisting.specs.declared.listing.Content.TheVariants.{Variables, Rw}
+use Rattle.nutlisting.specs.declared.listing.Content.TheVariants.{Variables}
 use Rattle.nutlisting.specs.declared.listing.stage.Stage.TheVariants.{Names}
 use Rattle.nutlisting.specs.Stages.{Reached}
 
@@ -36,10 +36,9 @@ pub record IsTaken (variables : List (List ℕ × VariableState)) (last : Option
       ≡ e ∷ entries_after byte_order variables (Some e.0)
   pub first : AreFirst (entries_after byte_order variables (Some e.0)) ahead
 
--- The variables after those that are done, of a listing that goes by their names.
+-- The variables after those that are done, of a listing of all of them.
 abbrev pub variables_past : Reached → Content → List (List ℕ × VariableState)
 variables_past (Names, last) (Variables ups fsd tree) = entries_after byte_order tree.variables last
-variables_past (Names, last) (Rw ups fsd tree) = entries_after byte_order tree.variables last
 variables_past reached content = []
 
 -- The next variables are ahead.

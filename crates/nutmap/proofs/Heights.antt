@@ -6,6 +6,7 @@ use Rattle.std.proofs.lemmas.Bool.{ltb-true, ltb-false}
 use Rattle.std.specs.declared.cmp.Ordering.{Ordering}
 use Rattle.nutmap.specs.Digits.{digits, most_nodes}
 use Rattle.nutmap.specs.Entries.{HasRisingKeys}
+use Rattle.nutmap.specs.Marked.{has_marked}
 use Rattle.nutmap.specs.Tree.{IsTree, IsNode, IsBalanced}
 use Rattle.nutmap.proofs.Digits.{lt_digits}
 use Rattle.nutmap.proofs.Ordered.{none_rise}
@@ -30,8 +31,9 @@ enough_cases hl hr h a b false s l r c e =
 node_enough : (hl hr h a b : ℕ) → 2 ^ (hl / 2) ≤ a + 1 → 2 ^ (hr / 2) ≤ b + 1 → IsBalanced hl hr → h ≡ max hl hr + 1 → 2 ^ (h / 2) ≤ a + b + 2
 node_enough hl hr h a b l r c e = enough_cases hl hr h a b (nat_lt h 2) refl l r c e
 
-pub node_tree : {K V : Type 0} (R : K → K → Ordering) (es fs : List (K × V)) (e : K × V) (hl hr h : ℕ) → IsTree R es hl → IsTree R fs hr → HasRisingKeys R (es ++ e ∷ fs) → IsBalanced hl hr → h ≡ max hl hr + 1 → IsNode R (es ++ e ∷ fs) hl hr h
-node_tree R es fs e hl hr h l r s c is = record {
+pub node_tree : {K V : Type 0} (R : K → K → Ordering) (marks : V → Bool) (es fs : List (K × V)) (e : K × V) (hl hr h : ℕ) (says : Bool) → IsTree R es hl → IsTree R fs hr → HasRisingKeys R (es ++ e ∷ fs) → IsBalanced hl hr → h ≡ max hl hr + 1 → says ≡ has_marked marks (es ++ e ∷ fs) → IsNode R marks (es ++ e ∷ fs) hl hr h says
+node_tree R marks es fs e hl hr h says l r s c is marked = record {
+  marked = marked;
   tree = record { rising = s.rising; enough = rw length-append (omega (arith, node_enough hl hr h (length es) (length fs) l.enough r.enough c is)) };
   height = is;
   balanced = c;

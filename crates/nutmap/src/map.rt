@@ -6,11 +6,13 @@ ghost use Rattle.std.specs.BTreeMap.{insert_entry, is_at};
 ghost use Rattle.nutmap.specs.Changed.{ChangesValue};
 ghost use Rattle.nutmap.specs.Digits.{most_nodes};
 ghost use Rattle.nutmap.specs.Entries.{value_at, entry_after, entries_after, HasRisingKeys};
+ghost use Rattle.nutmap.specs.Marked.{marked_after, KeepsMarks};
 ghost use Rattle.nutmap.specs.Meter.{counted_up};
 
 use crate::change::change_in_place;
 use crate::find;
 use crate::insert::{insert, put_in_place};
+use crate::marked::Marked;
 use crate::meter::Meter;
 use crate::remove::remove;
 use crate::tree::{Entry, Link, height, shared};
@@ -29,13 +31,13 @@ use std::rc::Rc;
 ///
 /// Contracts see a map as the list of its entries, whose keys rise.
 #[derive(Drop)]
-pub struct Map<K: Ord + Drop, V: Drop> {
+pub struct Map<K: Ord + Drop, V: Marked> {
     alloc: Global,
     root: Link<K, V>,
     len: usize,
 }
 
-impl<K: Ord + Drop, V: Drop> Model for Map<K, V> {
+impl<K: Ord + Drop, V: Marked> Model for Map<K, V> {
     ghost use Rattle.std.specs.Prelude.{◌≡◌, List, length};
     ghost use Rattle.nutmap.specs.Tree.{entries_of};
 
@@ -46,7 +48,7 @@ impl<K: Ord + Drop, V: Drop> Model for Map<K, V> {
     ghost invariant = { λ m. m.len ≡ length (entries_of m.root) };
 }
 
-impl<K: Ord + Drop, V: Drop> Map<K, V> {
+impl<K: Ord + Drop, V: Marked> Map<K, V> {
     /// The empty map, which takes no memory.
     pub fn new(alloc: Global) -> Self
         ensures { result ≡ [] }
@@ -104,6 +106,24 @@ impl<K: Ord + Drop, V: Drop> Map<K, V> {
         }
     }
 
+    /// The marked entry with the least key above `above`, or with the least key of all where that
+    /// is `None`.
+    ///
+    /// It goes past the entries that aren't marked without a look at each: it looks at no more than
+    /// about two nodes for each binary digit of the number of entries.
+    pub fn marked_after(&self, above: Option<&K>) -> Option<(&K, &V)>
+        ensures entry { option_map (λ e. (e.0.now, e.1.now)) result
+            ≡ marked_after V.marked K.cmp self.now (option_map (λ k. k.now) above.entry) }
+        ensures rising { HasRisingKeys K.cmp self.now }
+    {
+        // What the root says of the entries: their keys rise.
+        let _ = height(&self.root);
+        match above {
+            None => find::first_marked(&self.root),
+            Some(key) => find::marked_above(&self.root, key),
+        }
+    }
+
     /// Puts the first entries above `above`, or of all where that is `None`, into `out`, in the
     /// order of their keys: as many as there is room for. They take the place of what it held. One
     /// walk of the tree finds them all.
@@ -144,14 +164,16 @@ impl<K: Ord + Drop, V: Drop> Map<K, V> {
     /// is as it was, where the map doesn't have the key, or shares the value or a node on the way
     /// to it with a version.
     ///
-    /// It makes no node. A value that it changes is counted by `meter` as one.
+    /// It makes no node. A value that it changes is counted by `meter` as one. The change leaves a
+    /// value marked, or not, as it was.
     pub fn change_in_place<F: FnOnce(&mut V)>(
         &mut self,
         key: &K,
         change: F,
         meter: &mut Meter,
     ) -> bool
-        requires { F.IsAlwaysCallable change }
+        requires callable { F.IsAlwaysCallable change }
+        requires keeps_marks { KeepsMarks V.marked F.FnOnce change }
         ensures changed { IsTrue result
             → ChangesValue F.FnOnce change K.cmp self.old key.now self.new }
         ensures unchanged { IsFalse result → self.new ≡ self.old }
