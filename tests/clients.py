@@ -6,12 +6,14 @@ import concurrent.futures
 import contextlib
 import os
 import shlex
+import signal
 import socket
 import struct
 import subprocess
 import time
 from typing import NamedTuple
 
+import serving
 from replaying import Bench, built, plain, sections
 
 PROGRAMS = {os.path.basename(program): program for program in built("upsc", "upsrw", "upscmd")}
@@ -23,6 +25,7 @@ READ, WRITE, EARLY, BAD = "read failed", "write failed", "reply ended early", "b
 ARGUMENT = "bad argument"
 VALUE, ITEMS = 512, 65_536  # the longest value and listing
 ENDS, FAILS, STAYS = "the server ends", "its connection is reset", "it waits for more"
+PAUSES = "it waits, once the client was stopped and went on"
 
 LIST = ("upsc", "su")
 LISTED = b'BEGIN LIST VAR su\nVAR su a "1"\nVAR su b "2 \\"x\\\\"\nEND LIST VAR su\n'
@@ -42,6 +45,7 @@ class Row(NamedTuple):
     fault: str = ""
     ending: str = ENDS
     narrow: dict = {}
+    closed: tuple = ()
 
 
 class Peer:
@@ -52,10 +56,12 @@ class Peer:
         self.listener.settimeout(60)
         self.port = self.listener.getsockname()[1]
 
-    def meet(self, reply, ending):
+    def meet(self, reply, ending, child):
         """Sends the reply to the next client, and ends so. The answer is all that the client sent."""
         with self.listener.accept()[0] as wire:
             wire.settimeout(60)
+            if ending == PAUSES:
+                pause(child)
             if ending == FAILS:
                 line = wire.makefile("rb").readline()
                 wire.sendall(reply)
@@ -71,6 +77,15 @@ class Peer:
 PEER = Peer()
 
 
+def pause(child):
+    """The client waits for an answer, is stopped, and goes on."""
+    time.sleep(0.3)
+    child.send_signal(signal.SIGSTOP)
+    time.sleep(0.3)
+    child.send_signal(signal.SIGCONT)
+    time.sleep(0.3)
+
+
 def all_of(wire):
     """What comes until the client has ended, which resets the connection where it left something unread."""
     pieces = []
@@ -80,11 +95,11 @@ def all_of(wire):
     return b"".join(pieces)
 
 
-def start(words, narrow, output=subprocess.PIPE):
+def start(words, narrow, closed=()):
     program, *rest = words
     more = {"LD_PRELOAD": NARROW, "LED": LED, **narrow}
     # The pipe has room for all that is printed, which is read last.
-    return subprocess.Popen([PROGRAMS[program], *rest], env={**os.environ, **more}, stdin=subprocess.DEVNULL, stdout=output, stderr=subprocess.PIPE, pipesize=1 << 20)
+    return subprocess.Popen(serving.closing(closed, [PROGRAMS[program], *rest]), env={**os.environ, **more}, stdin=subprocess.DEVNULL, stdout=subprocess.PIPE, stderr=subprocess.PIPE, pipesize=1 << 20)
 
 
 def check_end(words, child, status, fault):
@@ -96,9 +111,9 @@ def check_end(words, child, status, fault):
 
 def meet(row, peer=PEER):
     """What the row's client sent and printed, its fault, and its status."""
-    child = start(row.words, {"LEAD_TO": str(peer.port), **row.narrow})
+    child = start(row.words, {"LEAD_TO": str(peer.port), **row.narrow}, row.closed)
     try:
-        sent = peer.meet(row.reply, row.ending)
+        sent = peer.meet(row.reply, row.ending, child)
         printed, faults = child.communicate(timeout=60)
     except (TimeoutError, subprocess.TimeoutExpired) as error:
         raise AssertionError(f"{row}: {error}") from None
@@ -111,7 +126,7 @@ def meet(row, peer=PEER):
 def wanted(row):
     """What its client is to have sent and printed, its fault, and its status."""
     faults, status = (f"{row.words[0]}: {row.fault}\n".encode(), 1) if row.fault else (b"", 0)
-    return row.sent, row.printed, faults, status
+    return row.sent, b"" if 1 in row.closed else row.printed, b"" if 2 in row.closed else faults, status
 
 
 def check(rows):
@@ -259,6 +274,14 @@ def outputs_that_take_less():
     yield Row(LIST, b"BEGIN LIST VAR su\nEND LIST VAR su\n", ASKED, narrow={"WRITE_ROOM": "0"})
 
 
+def closed_streams():
+    """What would be printed goes nowhere, and not to the server."""
+    refused = Row(SET, b"OK\nERR ACCESS-DENIED\n", b'USERNAME "admin"\nPASSWORD "s3 cret"\n', fault="server answered ERR ACCESS-DENIED")
+    listed = Row(("upscmd", "-l", "su"), b"BEGIN LIST CMD su\nCMD su a\nEND LIST CMD su\n", b"LIST CMD su\n", b"a\n")
+    for row in Row(LIST, LISTED, ASKED, PRINTED), refused, listed:
+        yield from (row._replace(closed=streams) for streams in serving.CLOSED)
+
+
 # Servers that say nothing, or no more.
 
 WAIT, SLACK = 5.0, 3.0
@@ -306,14 +329,16 @@ def check_unreached(programs):
 
 
 def main():
-    for case in in_pieces, values, longest_listings, cut_replies, bad_replies, more_after_a_reply, servers_that_take_less, outputs_that_take_less:
+    for case in in_pieces, values, longest_listings, cut_replies, bad_replies, more_after_a_reply, servers_that_take_less, outputs_that_take_less, closed_streams:
         BENCH.case(case.__name__.replace("_", " "), check, case())
     BENCH.case("lawful words lead to their server", check_led, SERVERS, {})
     BENCH.case("an address that refuses isn't the last", check_led, TWO_ADDRESSES, {"REFUSING": REFUSING})
     BENCH.case("unlawful words are bad arguments", check_unlawful, UNLAWFUL)
     BENCH.case("other words and the help", other_words)
     BENCH.case("nothing is sent after a refusal", check, rows("a reply that ends the job"))
-    BENCH.case("a server that says no more is waited for 5 s", check_waits, list(rows("servers that say nothing, or no more", STAYS)))
+    BENCH.case("clients that are stopped go on", check, [Row(LIST, LISTED, ASKED, PRINTED, ending=PAUSES)])
+    silent = list(rows("servers that say nothing, or no more", STAYS))
+    BENCH.case("a server that says no more is waited for 5 s", check_waits, [*silent, silent[0]._replace(ending=PAUSES)])
     BENCH.case("a server that takes no connection, too", check_unreached, [LIST, SET, ("upscmd", "-l", "su")])
     BENCH.end()
 

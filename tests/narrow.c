@@ -8,6 +8,7 @@
  * LEAD_TO: the port of 127.0.0.1 that each connection is led to, and each name is looked up as that address. The names, and
  * the addresses and ports that were asked for, are added to the file that LED names, on a line each.
  * REFUSING: an address that each name has before that one, and that refuses each connection.
+ * WATCHED, UNWATCHED: so many sockets are watched for events, and for so many after them that is refused.
  */
 #define _GNU_SOURCE
 #include <arpa/inet.h>
@@ -19,6 +20,7 @@
 #include <stdint.h>
 #include <stdio.h>
 #include <stdlib.h>
+#include <sys/epoll.h>
 #include <sys/socket.h>
 #include <unistd.h>
 
@@ -80,6 +82,18 @@ ssize_t write(int file, const void *from, size_t size)
     ssize_t count = part == 0 ? 0 : real(file, from, part);
     written += count > 0 ? (size_t)count : 0;
     return count;
+}
+
+int epoll_ctl(int set, int what, int file, struct epoll_event *event)
+{
+    static size_t added;
+    int (*real)(int, int, int, struct epoll_event *) = dlsym(RTLD_NEXT, "epoll_ctl");
+    size_t past = what == EPOLL_CTL_ADD ? added++ - number_of("WATCHED", SIZE_MAX) : SIZE_MAX;
+    if (past < number_of("UNWATCHED", 0)) {
+        errno = ENOMEM;
+        return -1;
+    }
+    return real(set, what, file, event);
 }
 
 int getaddrinfo(const char *host, const char *service, const struct addrinfo *hints, struct addrinfo **found)

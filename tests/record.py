@@ -4,6 +4,7 @@ leaves; records that are masked. A function without a parameter is a case."""
 import contextlib
 import os
 import re
+import resource
 import subprocess
 import time
 
@@ -77,9 +78,11 @@ def a_record_replays_to_the_same_bytes():
     assert lines[0].startswith(b"# Voqarchay ") and lines[0].endswith(b"--ids /dev/urandom"), lines[0]
     verbs = {line.split(b" ")[0] for line in lines[1:-1]}
     assert verbs >= {b"up", b"down", b"driver-hex", b"driver-took", b"tick", b"open", b"client-hex", b"took", b"close", b"id"}, verbs
-    # A file that exists is never written to.
-    ended = BENCH.ends("serve", *FILES, "--listen", "127.0.0.1:0", "--record", record)
-    assert ended == (1, b"", f"upsd: {record}: cannot create\nupsd: {record}: File exists (os error 17)\n".encode()), ended
+    # A file that exists is never written to, and the server serves.
+    with recorded("session", TWO) as (server, _, good):
+        assert good.ask(GET).startswith(b"VAR")
+        warning = f"upsd: warning: {record}: cannot create, and nothing is recorded: File exists (os error 17)\n"
+        assert server.journal().startswith(warning), server.journal()
     assert content("session").split(b"\n") == lines
     return f"{len(lines)} lines"
 
@@ -110,20 +113,50 @@ def a_limit_ends_the_record_and_not_the_server():
     return serves_on("limited", MIB, "--record-limit", "1")
 
 
+def a_head_that_is_cut_is_not_continued():
+    """The disk is full for the first write alone."""
+    upsd = BENCH.file("headless", f"#!/bin/bash\ntrap '' XFSZ\nexec prlimit --fsize=40:unlimited {BENCH.program} \"$@\"\n".encode())
+    os.chmod(upsd, 0o700)
+    with recorded("cut", TWO, upsd=upsd) as (server, _, good):
+        resource.prlimit(server.process.pid, resource.RLIMIT_FSIZE, (resource.RLIM_INFINITY, resource.RLIM_INFINITY))
+        assert good.ask(GET).startswith(b"VAR")
+        assert comes(lambda: server.journal().count("upsd: the record has ended") == 1), server.journal()
+    assert re.fullmatch(rb"# Voqarchay .{28}", content("cut")), content("cut")
+
+
+SECRETS = rb"s3|cret|p\\?w\b|longer|once|AB12CD"
+TYPED = [b'"PASSWORD" "s3 cret"', b"P\\ASSWORD pw", b"USERNAME longer-one", b"PASWORD s3 cret", b'PASSWORD "p\x01w"', b"GET VAR su xlonger-oney"]
+
+
 def a_masked_record_replays():
+    """Whatever a client typed, and without what stands in comments."""
+    with open(f"{FOLDER}/users", "wb") as file:
+        file.write(b'# password = once\n' + USERS.replace(b"password = p", b'"password" = p') + b"[more]\n  # password = once\npassword = longer-one\n")
     with recorded("secret", TWO + b'SETINFO device.serial "AB12CD"\n') as (server, driver, good):
         assert good.ask(ADMIN + b"GET VAR su device.serial\n", 3).endswith(b'"AB12CD"\n')
-        pieces = server.client()
+        pieces, typist = server.client(), server.client()
         pieces.send(b"USERNAME mon\nPASSW")
         time.sleep(0.1)
         assert pieces.ask(b"ORD p\\w\nLOGIN su\n", 3) == b"OK\nOK\nOK\n"
+        for line in TYPED:
+            typist.ask(line + b"\n")
         printed = replays("secret", end(server, driver))
-    subprocess.run([f"{HERE}/../tools/mask", "users", "secret", "AB12CD"], cwd=FOLDER, check=True)
+    with open(f"{FOLDER}/secret", "ab") as file:
+        file.write(b"took 1")
+    mask = [f"{HERE}/../tools/mask", "users", "secret", "AB12CD"]
+    masked = subprocess.run(mask, cwd=FOLDER, check=True, capture_output=True)
+    assert masked.stderr == b"mask: secret: the last line was cut, and is left out\n", masked.stderr
     status, again, faults = BENCH.ends("replay", *FILES[:3], "users.masked", "secret.masked")
     assert (status, faults) == (0, b"") and b"aaaaaa" in again, (status, faults)
     assert again == printed.replace(b"AB12CD", b"aaaaaa"), difference(again, printed)
     text = b"".join(bytes.fromhex(digits.decode()) for digits in re.findall(rb"-hex \w+ (\w+)", content("secret.masked")))
-    assert not re.search(rb"s3 cret|p\\?w\n|AB12CD", text + content("users.masked"))
+    assert not re.search(SECRETS, text + content("users.masked")), re.search(SECRETS, text + content("users.masked"))
+    # What it can't do it says.
+    bad = BENCH.file("bad", b"client-hex 1 4\n")
+    for words, fault in [(["users", "secret"], "users.masked: File exists"), (["users", "absent"], "absent: No such file or directory"),
+                         (["users", bad], f"{bad}:1: no line of a record")]:  # fmt: skip
+        ended = subprocess.run([mask[0], *words], cwd=FOLDER, check=False, capture_output=True, text=True)
+        assert (ended.returncode, ended.stderr.splitlines()[-1]) == (1, f"mask: {fault}"), ended
 
 
 BENCH.run(globals())

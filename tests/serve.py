@@ -6,6 +6,7 @@ import functools
 import itertools
 import multiprocessing
 import os
+import re
 import select
 import socket
 import subprocess
@@ -17,7 +18,7 @@ import serving
 from replaying import HERE, Bench, built, ends_in_full
 from serving import READY, TWO, Driver, comes
 
-(UPSD,) = built("upsd")
+UPSD, DEMODRIVER = built("upsd", "demodriver")
 BENCH = Bench("serve", UPSD)
 FOLDER = BENCH.folder.name
 served = functools.partial(serving.served, FOLDER, UPSD)
@@ -183,60 +184,115 @@ def a_forced_shutdown_is_seen_and_each_order_of_it_logged():
         logs(server, *["admin@127.0.0.1 ordered FSD: forced shutdown"] * 2)
 
 
-def drain(driver):
-    with contextlib.suppress(OSError):
-        while driver.wire.recv(1 << 16):
-            pass
+def read_to_end_of_drops(reading):
+    """The lines of a standard error, up to the one that says how many were dropped."""
+    journal = b""
+    while not journal.endswith(b"were dropped\n"):
+        assert select.select([reading], [], [], 4)[0], journal[-200:]
+        journal += os.read(reading, 1 << 16).replace(b"\r\n", b"\n")
+    return journal.decode().splitlines()
 
 
 def a_standard_error_that_nobody_reads_stops_nothing():
-    count, slowest, journal, (reading, errors) = 50_000, 0, b"", os.pipe()
-    with served(ORDERS, errors=errors) as (server, driver, good):
-        os.close(errors)
-        threading.Thread(target=drain, args=(driver,), daemon=True).start()
-        admin, mon = server.client(), server.client()
-        assert admin.ask(ADMIN) == mon.ask(MON) == b"OK\n" * 2
-        order, what = b"INSTCMD su test.battery.start\n", "upsd: su: admin@127.0.0.1 ordered INSTCMD test.battery.start"
-        for _ in range(count // 50):
-            admin.send(order * 50)
-            mon.send(b"FSD su\n" * 50)
-            slowest = max(slowest, worst_wait(good, 1))
-            assert all(admin.line() + mon.line() == b"OK\nERR ACCESS-DENIED\n" for _ in range(50))
-        assert slowest < 0.2, f"{slowest:.3f} s for an answer"
-        while not journal.endswith(b"were dropped\n"):
-            assert select.select([reading], [], [], 4)[0], journal[-200:]
-            journal += os.read(reading, 1 << 16)
-        lines = journal.decode().splitlines()
-        ordered, dropped = lines.count(what), int(lines[-1].split()[1])
-        assert "".join(line + "\n" for line in lines[:3]) == COME, lines[:3]
-        assert len(journal) > 1 << 16 and count <= ordered + dropped <= count + 100, (len(journal), ordered, dropped)
-        assert admin.ask(order) == b"OK\n"
-        assert os.read(reading, 1 << 16).decode() == what + "\n"
-    os.close(reading)
+    """A pipe, and a terminal. Many addresses have as many lines as each may have."""
+    slowest, refusal = 0, b"ERR USERNAME-REQUIRED\n"
+    for reading, errors in (os.pipe(), os.openpty()):
+        with served(errors=errors) as (server, driver, good):
+            os.close(errors)
+            crowd, asked = [server.client(f"127.0.0.{number}") for number in range(2, 64)], 0
+            for _ in range(6):
+                driver.send(b"PONG\n")
+                for client in crowd:
+                    assert client.ask(b"LOGIN su\n" * 8) == refusal * 8
+                    slowest, asked = max(slowest, worst_wait(good, 1)), asked + 8
+                time.sleep(1)
+            lines = read_to_end_of_drops(reading)
+            refused, dropped = sum("refused LOGIN" in line for line in lines), int(lines[-1].split()[1])
+            assert "".join(line + "\n" for line in lines[:3]) == COME, lines[:3]
+            assert 0 < dropped and asked - 400 <= refused + dropped <= asked + 400, (asked, refused, dropped)
+            good.send(b"LOGIN su\n")
+            assert good.line() == refusal
+            assert b"127.0.0.1 was refused LOGIN" in os.read(reading, 1 << 16)
+        os.close(reading)
+    assert slowest < 0.2, f"{slowest:.3f} s for an answer"
     return f"the slowest answer took {slowest * 1000:.1f} ms"
 
 
-def refused_logins_are_logged_once_a_second():
-    with served() as (server, _, good):
-        other = server.client("127.0.0.2")
-        assert other.ask(b"LOGIN su\nATTACH su\nLOGIN su\n") == b"ERR USERNAME-REQUIRED\n" * 3
-        assert good.ask(b"LOGIN su\n" * 2) == b"ERR USERNAME-REQUIRED\n" * 2
-        logs(server, *(f"127.0.0.{i} was refused LOGIN: USERNAME-REQUIRED" for i in (2, 1)))
-        time.sleep(2.1)
-        assert other.ask(b"USERNAME mon\nPASSWORD secret-word\nLOGIN su\n") == b"OK\nOK\nERR ACCESS-DENIED\n"
-        logs(server, "mon@127.0.0.2 was refused LOGIN: ACCESS-DENIED")
+MORE = re.compile(r"upsd: (?:su: more lines|more lines of 127[.]0[.]0[.][0-9]+): ([^;]*)(?:; now .*)?")
 
 
-def a_client_that_is_refused_all_the_time_is_logged_once_a_second():
+def parts_of(server, line, kind):
+    """How many lines of the journal are this one, and how many more of this kind are counted."""
+    lines = server.journal().splitlines()
+    counted = [count for every in map(MORE.fullmatch, lines) if every for count in every[1].split(", ")]
+    return (sum(re.fullmatch(f"upsd: su: {line}", every) is not None for every in lines),
+            sum(int(count.split(" ", 1)[0]) for count in counted if re.fullmatch(kind, count.split(" ", 1)[1])))
+
+
+def flip(driver, count, *lines):
+    """The driver sends the lines in turn, each in a piece of its own."""
+    for line in lines * count:
+        driver.send(line)
+        while not driver.is_read():
+            pass
+
+
+def log_in_and_out(server):
+    for _ in range(100):
+        client = server.client()
+        assert client.ask(MON + b"LOGIN su\nLOGOUT\n", 4).endswith(b"Goodbye\n")
+        client.close()
+
+
+def guess(server):
+    for _ in range(40):
+        client = server.client()
+        assert client.ask(b"USERNAME mon\nPASSWORD x\n" + b"LOGIN su\n" * 20).count(b"DENIED") == 20
+        client.close()
+
+
+def of_a_flood_each_line_is_logged_or_counted():
+    """Few are logged, whatever floods the journal. a_driver_that_comes_and_goes_is_logged_once_a_minute has one more."""
+    for flood, *wanted in [
+            (lambda server, driver: flip(driver, 100, b'SETINFO ups.status "OB"\n', b'SETINFO ups.status "OL"\n'),
+             ("status OB", "status with OB or LB", 100), ("status OL", "status", 101)),
+            (lambda server, driver: flip(driver, 100, b"DATASTALE\n", b"DATAOK\n"), ("data stale", "data stale", 100), ("data good", "data good", 101)),
+            (lambda server, driver: log_in_and_out(server), ("mon@127.0.0.1 logged in", "logged in", 100), ("mon@127.0.0.1 logged out", "logged out", 100)),
+            (lambda server, driver: guess(server), ("mon@127.0.0.1 was refused LOGIN: ACCESS-DENIED", "refused LOGIN", 800))]:
+        with served() as (server, driver, _):
+            begin = time.monotonic()
+            flood(server, driver)
+            most = 12 * (time.monotonic() - begin + 2)
+            for line, kind, count in wanted:
+                assert comes(lambda: sum(parts_of(server, line, kind)) == count, 3), (line, parts_of(server, line, kind))  # noqa: B023
+            assert sum(parts_of(server, *wanted[0][:2])) > parts_of(server, *wanted[0][:2])[0], "nothing is counted"
+            assert server.journal().count("\n") <= most, (most, server.journal())
+
+
+def what_matters_most_is_logged_in_a_flood():
+    """Of an address a forced shutdown after orders and refusals, of a UPS its failing power after all else."""
+    with served(ORDERS) as (server, driver, good):
+        time.sleep(1 - time.time() % 1)
+        guess_at = server.client()
+        assert good.ask(ADMIN) == b"OK\n" * 2
+        for _ in range(3):
+            assert guess_at.ask(b"LOGIN su\n" * 50).count(b"ERR") == 50
+            assert good.ask(b"INSTCMD su test.battery.start\n" * 50) == b"OK\n" * 50
+            assert good.ask(b"FSD su\n") == b"OK FSD-SET\n"
+            flip(driver, 10, b'SETINFO ups.status "OL CHRG"\n', b'SETINFO ups.status "OL"\n')
+            driver.send(b'SETINFO ups.status "OB LB"\n')
+            time.sleep(1.1)
+            driver.send(b'SETINFO ups.status "OL"\n')
+        for line in ("status OB LB", "admin@127.0.0.1 ordered FSD: forced shutdown"):
+            assert server.journal().count(f"upsd: su: {line}\n") == 3, (line, server.journal())
+        assert server.journal().count("ordered INSTCMD") >= 3
+
+
+def names_of_users_forge_no_line():
     with served() as (server, _, good):
-        begin, refused = time.monotonic(), "upsd: su: mon@127.0.0.1 was refused FSD: ACCESS-DENIED\n"
-        assert good.ask(MON) == b"OK\n" * 2
-        while time.monotonic() < begin + 3:
-            assert good.ask(b"FSD su\n") == b"ERR ACCESS-DENIED\n"
-            time.sleep(0.01)
-        journal = server.journal()
-        assert journal == COME + refused * journal.count(refused), journal
-        assert 3 <= journal.count(refused) <= 4, journal
+        name = b"root@192.0.2.66 was\\\\ refused LOGIN: ACCESS-DENIED"
+        assert good.ask(b'USERNAME "%s"\nPASSWORD x\nLOGIN su\n' % name, 3).endswith(b"DENIED\n")
+        logs(server, "root\\x40192.0.2.66\\x20was\\\\\\x20refused\\x20LOGIN:\\x20ACCESS-DENIED@127.0.0.1 was refused LOGIN: ACCESS-DENIED")
 
 
 def who_logs_in_or_attaches_is_logged_and_who_leaves():
@@ -388,34 +444,46 @@ def a_driver_that_never_reports_all_is_logged_as_stale():
 def each_line_has_its_priority_where_it_is_asked_for():
     with served(ORDERS, "--priorities") as (server, driver, good):
         assert good.ask(ADMIN + b"LOGIN su\nINSTCMD su test.battery.start\nFSD su\nLOGIN su\n", 6)
+        for status in [b"OB", b"FSD OB LB"]:
+            driver.send(b'SETINFO ups.status "%s"\n' % status)
+            assert comes(lambda: status in good.ask(GET))  # noqa: B023
         driver.send(b"DATASTALE\n")
         assert comes(lambda: good.ask(GET) == b"ERR DATA-STALE\n")
+        driver.listener.close()
         driver.lose()
         wanted = [(6, line) for line in COME.splitlines()] + [
             (6, "upsd: su: admin@127.0.0.1 logged in"),
             (5, "upsd: su: admin@127.0.0.1 ordered INSTCMD test.battery.start"),
             (2, "upsd: su: admin@127.0.0.1 ordered FSD: forced shutdown"),
             (6, "upsd: su: admin@127.0.0.1 was refused LOGIN: ALREADY-LOGGED-IN"),
+            (4, "upsd: su: status OB"),
+            (2, "upsd: su: status FSD OB LB"),
             (4, "upsd: su: data stale"),
-            (4, "upsd: su: driver lost")]
+            (4, "upsd: su: driver lost"),
+            (4, "upsd: su: " + REFUSED.strip())]
         lines = [f"<{level}>{line}" for level, line in wanted]
         assert comes(lambda: server.journal().splitlines()[:len(lines)] == lines), server.journal()
+
+
+COMINGS = []
 
 
 def come_and_go(driver):
     with contextlib.suppress(OSError):
         while True:
-            driver.accept().lose()
+            COMINGS.append(driver.accept(TWO))
+            time.sleep(0.2)
+            driver.lose()
 
 
 def a_driver_that_comes_and_goes_is_logged_once_a_minute():
     """It does so from the first case on."""
-    wanted = ["upsd: su: driver connected", "upsd: su: driver lost"] * 2 + ["upsd: su: driver connected"]
-    assert comes(lambda: RESTLESS.journal().count("\n") > 5, 62), RESTLESS.journal()
-    lines = RESTLESS.journal().splitlines()
+    wanted = [f"upsd: su: {line}" for line in [*NEWS, "driver lost"] * 2 + NEWS]
+    assert comes(lambda: "more lines" in RESTLESS.journal(), 62), RESTLESS.journal()
+    came, lines = len(COMINGS), RESTLESS.journal().splitlines()
+    assert lines[:11] == wanted and lines[11].startswith("upsd: su: more lines: ") and "; now d" in lines[11], lines
+    assert all(came - 2 <= sum(parts_of(RESTLESS, line, line)) <= came for line in (*NEWS[::2], "driver lost")), (came, lines)
     RESTLESS.close()
-    assert lines[:5] == wanted, lines
-    assert lines[5].endswith(" times in a minute") and 30 < int(lines[5].split()[4]) < 61, lines
 
 
 def the_sixty_fifth_client_is_closed():
@@ -498,6 +566,31 @@ def a_client_that_half_closes_gets_all():
             got = client.up_to_end()
             listed = many_listed(MANY, 256)
             assert got.startswith(listed) and got.endswith(listed + STATUS), len(got)
+
+
+def a_client_that_half_closes_gets_all_whatever_follows_its_end():
+    with served(many(1000, 100)) as (server, _, _):
+        for end, last in [(b"LOGOUT\n" + b"VER\n" * 750, b"OK Goodbye\n"), (b"x" * 5000, b"ERR TOO-LONG\n")]:
+            for _ in range(5):
+                client = server.client(buffer=4096)
+                client.send(b"LIST VAR su\n" + end)
+                client.wire.shutdown(socket.SHUT_WR)
+                time.sleep(0.2)
+                got = client.up_to_end()
+                assert got == many_listed(1000, 100) + last, (len(got), got[-20:])
+
+
+def a_client_that_is_not_watched_is_closed_and_its_place_is_free():
+    narrow = BENCH.library("narrow.c")
+    with served(env={**os.environ, "LD_PRELOAD": narrow, "WATCHED": "3", "UNWATCHED": "3"}) as (server, _, _):
+        for line in (b"", GET, b"LIST VAR su\n" * 100):
+            client = server.client()
+            client.wire.settimeout(2.5)
+            client.send(line)
+            with contextlib.suppress(ConnectionResetError):
+                client.up_to_end()
+        others = [server.client() for _ in range(63)]
+        assert all(is_answered(other, GET, STATUS) for other in others)
 
 
 def clients_that_left_are_closed_at_their_end_or_after_two_ticks():
@@ -681,6 +774,21 @@ def nothing_grows():
         grown = server.kilobytes() - before
         assert grown <= 256, f"{grown} KB more"
         logs(server)
+
+
+def standard_streams_that_are_closed_are_no_sockets():
+    for streams in serving.CLOSED[1:]:
+        port = next(port for port in serving.PORTS if serving.is_free(port))
+        words = ["serve", "--ups", file("alone.conf", "[su]\n"), "--users", path("users"), "--listen", f"127.0.0.1:{port}"]
+        for program in [UPSD, *words], [DEMODRIVER, path("demo.sock")]:
+            process = subprocess.Popen(serving.closing(streams, program), stdout=subprocess.PIPE, stderr=subprocess.PIPE)
+            opened = f"/proc/{process.pid}/fd/"
+            try:
+                assert comes(lambda: len(os.listdir(opened)) > 3, 3), os.listdir(opened)
+                assert all(os.readlink(f"{opened}{number}") == "/dev/null" for number in streams), (program[0], streams)
+            finally:
+                process.kill()
+                process.communicate()
 
 
 def it_starts_again_at_its_port_and_at_none_that_is_taken():

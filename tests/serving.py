@@ -7,6 +7,7 @@ import os
 import random
 import resource
 import select
+import signal
 import socket
 import struct
 import subprocess
@@ -180,6 +181,46 @@ class Server:
         self.process.stdout.close()
         for client in self.clients:
             client.close()
+
+
+def pour(wires, text, begins):
+    """Sends the text on each of these connections on and on, and reads what comes. It closes that pipe once it has begun on each."""
+    sent = dict.fromkeys(wires, 0)
+    while True:
+        readable, writable, _ = select.select(wires, wires, [])
+        for wire in writable:
+            sent[wire] += wire.send(text[sent[wire] % len(text) :])
+        for wire in readable:
+            wire.recv(1 << 16)
+        if begins and all(sent.values()):
+            begins = os.close(begins)
+
+
+@contextlib.contextmanager
+def pouring(peers, text):
+    """While the block runs another process pours the text over the connections of these peers."""
+    begun, begins = os.pipe()
+    if (child := os.fork()) == 0:
+        try:
+            pour([it.wire for it in peers], text, begins)
+        finally:
+            os._exit(1)
+    os.close(begins)
+    os.read(begun, 1)
+    os.close(begun)
+    try:
+        yield
+    finally:
+        os.kill(child, signal.SIGKILL)
+        os.waitpid(child, 0)
+
+
+CLOSED = [[number for number in range(3) if some >> number & 1] for some in range(8)]  # which standard streams are
+
+
+def closing(streams, words):
+    """The words of a program that begins without these standard streams."""
+    return ["sh", "-c", f'exec "$0" "$@" {" ".join(f"{number}>&-" for number in streams)}', *words]
 
 
 PORTS = itertools.count(random.randrange(16_384, 32_000))  # below those that the system gives

@@ -8,6 +8,7 @@ mod ups;
 
 use crate::driver::Driver;
 use crate::server::Server;
+use nutcommand::hold_standard_streams;
 use std::io::ErrorKind;
 use std::os::unix::fs::FileTypeExt;
 use std::os::unix::net::{UnixListener, UnixStream};
@@ -21,6 +22,7 @@ const USAGE: &str = "usage: demodriver SOCKET";
 const PAUSE: u64 = 100;
 
 fn main(rt: HostRuntime) -> io::Result<()> {
+    hold_standard_streams(&rt);
     let words = env::args(&rt)?.collect::<Vec<String>>(rt.alloc())?;
     let Some(path) = socket_in(&words) else {
         println!(rt; "{USAGE}")?;

@@ -3,15 +3,17 @@ ghost use Rattle.std.specs.Prelude.{◌≡◌, ◌⊎◌, IfErr};
 
 use crate::Target;
 use crate::limits::WAIT_SECONDS;
+use libc::net::{POLLIN, POLLOUT, poll};
+use libc::types::pollfd;
 use nutrequest::ClientFault;
 use std::io;
-use std::io::ErrorKind;
+use std::io::{ErrorKind, Read, Write};
 use std::net::{TcpStream, ToSocketAddrs};
+use std::os::fd::AsRawFd;
 use std::time::Duration;
 
 /// Connects to the server: its name is looked up by the system, and each of its addresses is tried
-/// in turn. No address is waited for longer than `WAIT_SECONDS`, nor is a later read or write. It
-/// sends each line at once.
+/// in turn. No address is waited for longer than `WAIT_SECONDS`. It sends each line at once.
 ///
 /// # Errors
 ///
@@ -26,12 +28,48 @@ pub fn connect(rt: &HostRuntime, target: &Target) -> Result<TcpStream, ClientFau
         match TcpStream::connect_timeout(rt, &address, wait) {
             Ok(stream) => {
                 stream.set_nodelay(true)?;
-                stream.set_read_timeout(Some(wait))?;
-                stream.set_write_timeout(Some(wait))?;
                 return Ok(stream);
             }
             Err(error) => last = error,
         }
     }
     Err(ClientFault::from(last))
+}
+
+/// An end of a connection. A read or a write waits for `WAIT_SECONDS` at most. The system itself
+/// goes on waiting where the program is stopped meanwhile, and continued.
+#[derive(Clone, Copy, Drop)]
+pub struct Patient<'a>(pub &'a TcpStream);
+
+impl Patient<'_> {
+    /// Waits until one of these events is there.
+    fn wait(&self, events: i16) -> io::Result<()> {
+        let mut asked = [pollfd {
+            fd: self.0.as_raw_fd(),
+            events,
+            revents: 0,
+        }];
+        match poll(&mut asked, WAIT_SECONDS as i32 * 1000) {
+            1 => Ok(()),
+            _ => Err(io::Error::from(ErrorKind::TimedOut)),
+        }
+    }
+}
+
+impl Read for Patient<'_> {
+    fn read(&mut self, into: &mut [u8]) -> io::Result<usize> {
+        self.wait(POLLIN)?;
+        self.0.read(into)
+    }
+}
+
+impl Write for Patient<'_> {
+    fn write(&mut self, from: &[u8]) -> io::Result<usize> {
+        self.wait(POLLOUT)?;
+        self.0.write(from)
+    }
+
+    fn flush(&mut self) -> io::Result<()> {
+        Ok(())
+    }
 }

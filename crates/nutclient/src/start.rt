@@ -10,10 +10,11 @@ ghost use Rattle.nutclient.specs.Ending.{name_of};
 ghost use Rattle.nutclient.specs.Start.{ended, EndsAsAsked, EndsAsRefused};
 ghost use Rattle.nutcommand.specs.Words.{program_with};
 
+use crate::connection::Patient;
 use crate::limits::WORD_FAULT;
 use crate::{Client, Job, Program, connect, do_job, ending};
 use clap::{ArgMatches, Command, Error};
-use nutcommand::{print_refusal, with_words, words_of};
+use nutcommand::{hold_standard_streams, print_refusal, with_words, words_of};
 use nutio::{CountedReader, CountedWriter};
 use nutrequest::ClientFault;
 use nutversion::VERSION;
@@ -25,6 +26,7 @@ use std::process::ExitCode;
 pub fn main_of<C: Client>(rt: &HostRuntime) -> ExitCode
     ensures { exit_status result ≤ WORD_FAULT }
 {
+    hold_standard_streams(rt);
     let words = match words_of(rt, ClientFault::BadTarget, ClientFault::Memory) {
         Ok(words) => words,
         Err(fault) => return report(rt, C::PROGRAM, fault),
@@ -56,8 +58,8 @@ fn obey<C: Client>(rt: &HostRuntime, words: &[String]) -> Result<u8, ClientFault
     let stderr = rt.stderr();
     let (status, _) = do_job(
         rt.alloc(),
-        CountedReader::new(&stream),
-        CountedWriter::new(&stream),
+        CountedReader::new(Patient(&stream)),
+        CountedWriter::new(Patient(&stream)),
         &mut CountedWriter::new(io::writer(rt)),
         &mut CountedWriter::new(io::writer(&stderr)),
         C::PROGRAM,

@@ -1,8 +1,11 @@
-//! The command lines of the programs: their words, and how they end where these are refused.
+//! How the programs begin: with their standard streams, and with the words of their command lines.
+//! And how they end where these are refused.
 #![tactic(auto)]
 
 mod refusal;
+mod standard;
 mod words;
 
 pub use refusal::print_refusal;
+pub use standard::hold_standard_streams;
 pub use words::{Bond, Form, Word, with_words, words_of};

@@ -1,2 +1,3 @@
-pub mod Refusals
+pub mod Tally
+pub mod Tallies
 pub mod LogBuffer

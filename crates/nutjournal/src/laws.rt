@@ -1,17 +1,24 @@
-//! The numbers of the journal, and how often it logs what.
+//! The numbers of the journal, and what it logs and counts.
 ghost use Rattle.std.specs.Prelude.{◌≡◌};
-ghost use Rattle.nutjournal.specs.Refusals.{ARefusalIsLoggedOnceASecond};
-ghost use Rattle.nutjournal.specs.declared.journal.TheConstants.{REFUSAL_LIMIT};
+ghost use Rattle.nutjournal.specs.Tally.{EachLineIsLoggedOrCounted};
 ghost use Rattle.nutjournal.specs.declared.log_buffer.TheConstants.{LOG_LIMIT};
+ghost use Rattle.nutjournal.specs.declared.tallies.TheConstants.{ADDRESS_COUNT};
+ghost use Rattle.nutjournal.specs.declared.tally.TheConstants.{ALARM_LIMIT, LINE_LIMIT, LOSS_LIMIT, PLAIN_LIMIT};
 
-/// The refusals logged in a second, and the most bytes of the journal that wait.
+/// The most lines in a second of a UPS or of an address, and how many addresses have a count of their
+/// own; how often a driver is lost in a minute; and the most bytes of the journal that wait.
 pub fn numbers()
-    ensures refusals { REFUSAL_LIMIT ≡ 64 }
+    ensures lines { LINE_LIMIT ≡ 10 }
+    ensures alarms { ALARM_LIMIT ≡ 9 }
+    ensures plain { PLAIN_LIMIT ≡ 8 }
+    ensures addresses { ADDRESS_COUNT ≡ 64 }
+    ensures losses { LOSS_LIMIT ≡ 2 }
     ensures waiting { LOG_LIMIT ≡ 32768 }
 {}
 
-/// Of each session at most one refusal is logged in a second, whatever else is noted meanwhile.
-#[tactic(auto, using(crate::proofs::Refusals::a_refusal_is_logged_once_a_second))]
-pub fn a_refusal_is_logged_once_a_second()
-    ensures { ARefusalIsLoggedOnceASecond }
+/// Of the lines of a UPS, or of an address, each is logged, or counted by its kind, and none both.
+/// At most 10 are logged in a second.
+#[tactic(auto, using(crate::proofs::Lines::each_line_is_logged_or_counted))]
+pub fn each_line_is_logged_or_counted()
+    ensures { EachLineIsLoggedOrCounted }
 {}

@@ -5,5 +5,7 @@
 mod journal;
 pub mod laws;
 mod log_buffer;
+mod tallies;
+mod tally;
 
 pub use journal::Journal;

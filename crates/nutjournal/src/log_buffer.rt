@@ -1,5 +1,5 @@
-//! The lines of the journal on their way to standard error. It may be a pipe that nobody reads, so
-//! no write waits.
+//! The lines of the journal on their way to standard error. It may be a pipe or a terminal that
+//! nobody reads, so no write waits.
 ghost use Rattle.std.specs.Prelude.{◌≡◌, [], IfOk};
 ghost use Rattle.nutjournal.specs.LogBuffer.{after_line};
 
@@ -9,10 +9,12 @@ use libc::net::{POLLOUT, poll};
 use libc::types::pollfd;
 use nutlisting::ByteQueue;
 use nutwords::UpsName;
-use std::alloc::{AllocError, Global};
+use std::alloc::AllocError;
 use std::fmt::{Display, Write as _};
-use std::io::Write;
+use std::fs::File;
+use std::io::{IsTerminal, Write};
 use std::mem;
+use std::os::fd::AsRawFd;
 
 /// The priorities of lines (syslog(3)).
 pub const CRITICAL: u8 = 2;
@@ -38,6 +40,8 @@ pub struct LogBuffer {
     has_priorities: bool,
     pub waiting: ByteQueue<LOG_LIMIT>,
     pub dropped: u64,
+    /// Standard error where it is a terminal, opened again so that no write to it waits.
+    terminal: Option<File>,
 }
 
 impl LogBuffer {
@@ -46,14 +50,15 @@ impl LogBuffer {
     /// # Errors
     ///
     /// `AllocError` where memory is refused.
-    pub fn new(alloc: Global, has_priorities: bool) -> Result<LogBuffer, AllocError>
+    pub fn new(rt: &HostRuntime, has_priorities: bool) -> Result<LogBuffer, AllocError>
         ensures waiting { IfOk result (λ log. log.waiting ≡ []) }
         ensures dropped { IfOk result (λ log. log.dropped ≡ 0) }
     {
         Ok(LogBuffer {
             has_priorities,
-            waiting: ByteQueue::new(alloc)?,
+            waiting: ByteQueue::new(rt.alloc())?,
             dropped: 0,
+            terminal: terminal(rt),
         })
     }
 
@@ -101,10 +106,26 @@ impl LogBuffer {
                 return;
             }
             let piece = &self.waiting.bytes()[..count];
-            let written = rt.stderr().write(piece).unwrap_or(0);
-            self.waiting.drop_front(written);
+            let written = match &mut self.terminal {
+                Some(terminal) => terminal.write(piece),
+                None => rt.stderr().write(piece),
+            };
+            self.waiting.drop_front(written.unwrap_or(0));
         }
     }
+}
+
+/// Standard error where it is a terminal that may be opened: a write to it gives `WouldBlock`, and
+/// that holds for nobody else who has it open.
+fn terminal(rt: &HostRuntime) -> Option<File> {
+    if !rt.stderr().is_terminal() {
+        return None;
+    }
+    let terminal = File::options()
+        .write(true)
+        .open(rt, "/proc/self/fd/2")
+        .ok()?;
+    (os::set_nonblocking(terminal.as_raw_fd(), true) == 0).then_some(terminal)
 }
 
 /// Whether standard error takes bytes without waiting: of a pipe `PIECE_LIMIT` at least.

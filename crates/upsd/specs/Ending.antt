@@ -37,8 +37,7 @@ ending_of_replay script faults.Write = endings.Write
 abbrev pub IsEndOfServing : SocketAddr → Ending → Type 0
 IsEndOfServing address ending = (ending ≡ endings.Memory)
     ⊎ (((error : Option ℤ) × (ending ≡ endings.Listen address error))
-    ⊎ ((ending ≡ endings.Write) ⊎ (((fault : LoopFault) × (ending ≡ endings.Loop fault))
-    ⊎ ((path : Bor (List ℕ)) × ((error : Option ℤ) × (ending ≡ endings.Uncreated path error))))))
+    ⊎ ((ending ≡ endings.Write) ⊎ ((fault : LoopFault) × (ending ≡ endings.Loop fault))))
 
 -- The line that says at which address the server listens for clients.
 abbrev pub listening_line : SocketAddr → List ℕ

@@ -1,5 +1,5 @@
 -- What reading files gives.
-use Rattle.std.specs.Prelude.{◌≡◌, ℕ, ℤ, ⊤, List, Option, Some, Result, Err}
+use Rattle.std.specs.Prelude.{◌≡◌, ℕ, ⊤, List, Option, Some, Result, Err}
 use denote.Ref.{Bor}
 use Rattle.upsd.specs.declared.ending.Ending.{Ending}
 use Rattle.upsd.specs.declared.ending.Ending.TheVariants as endings
@@ -28,7 +28,3 @@ CantBeRead gives path ending =
 abbrev pub CantBeOpened : Option (Bor (List ℕ)) → Ending → Type 0
 CantBeOpened named ending =
     (path : Bor (List ℕ)) × (named ≡ Some path) × CantBeRead anything path ending
-
--- The ending says that a file can't be made.
-abbrev pub CantBeMade : Bor (List ℕ) → Ending → Type 0
-CantBeMade path ending = (error : Option ℤ) × (ending ≡ endings.Uncreated path error)

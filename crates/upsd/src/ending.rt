@@ -30,9 +30,6 @@ pub enum Ending<'a> {
     /// The file can't be read.
     #[error("{0}: cannot read")]
     Unread(&'a str, Option<i32>),
-    /// The file of a record can't be made.
-    #[error("{0}: cannot create")]
-    Uncreated(&'a str, Option<i32>),
     /// This line of a configuration file is refused, with the number of its cause.
     #[error("{0}:{1}: cause {2}")]
     Refused(&'a str, usize, u8),
@@ -96,7 +93,7 @@ pub fn print_ending(rt: &HostRuntime, ending: &Ending<'_>) {
         Ending::BadArgument(None) => {
             let _ = eprintln!(rt; "upsd: a word is not UTF-8");
         }
-        Ending::Unread(path, error) | Ending::Uncreated(path, error) => explain(rt, &path, error),
+        Ending::Unread(path, error) => explain(rt, &path, error),
         Ending::Listen(address, error) => explain(rt, &address, error),
         _ => {}
     }

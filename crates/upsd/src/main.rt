@@ -28,7 +28,7 @@ use crate::task::{DEFAULT_ADDRESS, RECORD_MIB_MOST, Task, task_of};
 use crate::warnings::warn;
 use clap::builder::ValueParser;
 use clap::{ArgMatches, Command, Error};
-use nutcommand::{Word, print_refusal, with_words, words, words_of};
+use nutcommand::{Word, hold_standard_streams, print_refusal, with_words, words, words_of};
 use nutcore::{MAX_AGE_LEAST, MAX_AGE_MOST, Server};
 use nutio::CountedWriter;
 use nutversion::VERSION;
@@ -37,6 +37,7 @@ use std::io;
 use std::process::ExitCode;
 
 fn main(rt: HostRuntime) -> ExitCode {
+    hold_standard_streams(&rt);
     let words = match words_of(&rt, Ending::BadArgument(None), Ending::Memory) {
         Ok(words) => words,
         Err(ending) => return finish(&rt, &Err(ending)),

@@ -2,11 +2,11 @@
 ghost use Rattle.std.specs.Prelude.{◌≡◌, ◌≢◌, ℕ, List, Result, Ok, Err, IfErr, MatchResult};
 ghost use Rattle.std.specs.IoError.{error_kind, raw_os_error};
 ghost use Rattle.upsd.specs.declared.reading.ReadFault.{ReadFault};
-ghost use Rattle.upsd.specs.Reading.{CantBeMade, CantBeRead, anything, ending_of_unread};
+ghost use Rattle.upsd.specs.Reading.{CantBeRead, anything, ending_of_unread};
 
 use crate::ending::Ending;
 use std::fs::{self, File, OpenOptions};
-use std::io::{Error, ErrorKind};
+use std::io::{self, Error, ErrorKind};
 use std::os::unix::fs::OpenOptionsExt;
 
 /// The mode of a file that only its owner reads and writes.
@@ -84,13 +84,10 @@ pub fn open<'a>(rt: &HostRuntime, path: &'a str) -> Result<File, Ending<'a>>
 }
 
 /// Creates the file of this path, which must not exist, readable only by its owner.
-pub fn create<'a>(rt: &HostRuntime, path: &'a str) -> Result<File, Ending<'a>>
-    ensures { IfErr result (CantBeMade path.entry) }
-{
-    let made = OpenOptions::new()
+pub fn create(rt: &HostRuntime, path: &str) -> io::Result<File> {
+    OpenOptions::new()
         .write(true)
         .create_new(true)
         .mode(FOR_OWNER)
-        .open(rt, path);
-    made.map_err(|error| Ending::Uncreated(path, error.raw_os_error()))
+        .open(rt, path)
 }

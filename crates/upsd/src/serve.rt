@@ -6,7 +6,7 @@ ghost use Rattle.nutloop.specs.Moved.{SomeTurns};
 ghost use Rattle.nutloop.specs.Serving.{IsOneRun, TurnsUpTo};
 ghost use Rattle.upsd.specs.Configuration.{FirstFails};
 ghost use Rattle.upsd.specs.Ending.{IsEndOfServing, PrintsAddress};
-ghost use Rattle.upsd.specs.Reading.{CantBeMade, CantBeOpened, anything};
+ghost use Rattle.upsd.specs.Reading.{CantBeOpened, anything};
 ghost use Rattle.upsd.specs.Recorded.{ServesRecorded};
 
 use crate::ending::Ending;
@@ -14,7 +14,7 @@ use crate::files::{Files, server_of};
 use crate::reading::{create, open};
 use crate::recorded::{Recorded, Recorder, Served};
 use crate::task::Service;
-use crate::warnings::warn;
+use crate::warnings::{warn, warn_of_record};
 use nutcore::Server;
 use nutio::{CountedWriter, Sink, send};
 use nutjournal::Journal;
@@ -31,8 +31,8 @@ use std::{env, io};
 ///
 /// # Errors
 ///
-/// The first file that can't be read or is refused, that of the ids last; `Uncreated`; `Listen`;
-/// `Loop`; `Memory`; `Write`.
+/// The first file that can't be read or is refused, that of the ids last; `Listen`; `Loop`;
+/// `Memory`; `Write`.
 pub fn serve_files<'a>(
     rt: &HostRuntime,
     files: Files<'a>,
@@ -74,8 +74,8 @@ fn serve<'a>(
     let ids = ids_in(rt, files.ids)?;
     let address = service.address;
     match MioSockets::new(rt, rt.alloc(), address, server, ids) {
-        Ok(mut sockets) => match files.to_record {
-            Some(path) => match recorder_in(rt, server, path, service.record_limit) {
+        Ok(mut sockets) => match file_for_record(rt, files.to_record) {
+            Some(file) => match recorder_in(rt, server, file, service.record_limit) {
                 Ok(recorder) => {
                     let mut sockets = Recorded { sockets, recorder };
                     serve_recorded(rt, server, &mut sockets, files, service)
@@ -88,19 +88,36 @@ fn serve<'a>(
     }
 }
 
-/// A recorder of at most so many MiB in the new file of this path, which begins with a comment.
+/// The new file of this path, if a record is wanted. Where the file can't be made, it warns, and
+/// the server serves without a record.
+fn file_for_record(rt: &HostRuntime, path: Option<&str>) -> Option<File> {
+    let path = path?;
+    match create(rt, path) {
+        Ok(file) => Some(file),
+        Err(error) => {
+            warn_of_record(rt, path, &error);
+            None
+        }
+    }
+}
+
+/// A recorder of at most so many MiB in this file, which begins with a comment.
 fn recorder_in<'a>(
     rt: &HostRuntime,
     server: &Server,
-    path: &'a str,
+    mut file: File,
     mebibytes: u64,
 ) -> Result<Recorder<CountedWriter<File>>, Ending<'a>>
-    ensures { IfErr result (λ ending. (ending ≡ Ending.Memory) ⊎ CantBeMade path.entry ending) }
+    ensures { IfErr result (λ ending. ending ≡ Ending.Memory) }
 {
     let list = server.ups().share().map_err(|_| Ending::Memory)?;
-    let mut file = create(rt, path)?;
-    let _ = write_head(rt, &mut file);
-    let limit = mebibytes.saturating_mul(1 << 20);
+    // After a cut head nothing is written.
+    let has_head = write_head(rt, &mut file).is_ok();
+    let limit = if has_head {
+        mebibytes.saturating_mul(1 << 20)
+    } else {
+        0
+    };
     Ok(Recorder::new(rt.alloc(), list, CountedWriter::new(file), limit))
 }
 
@@ -149,7 +166,7 @@ fn serve_over<'a, S: Served<File>>(
         server.old.state sockets.old server.new.state sockets.new }
 {
     let address = service.address;
-    let journal = Journal::new(rt.alloc(), service.priorities, service.max_age);
+    let journal = Journal::new(rt, service.priorities, service.max_age);
     let mut journal = journal.map_err(|_| Ending::Memory)?;
     warn(rt, files, server.ups(), server.users());
     match print_bound(rt, address, sockets.shown().0.local_addr()) {

@@ -8,7 +8,7 @@ use nutusers::{Grant, User};
 use nutwords::is_word;
 use std::fmt::Display;
 use std::fs;
-use std::io::Read;
+use std::io::{Error, Read};
 use std::os::unix::fs::PermissionsExt;
 
 /// The bit of a file's mode by which everybody may read it.
@@ -38,6 +38,12 @@ pub fn warn(rt: &HostRuntime, files: Files<'_>, list: &UpsList, users: &Users) {
             warn_of_user(rt, path, user);
         }
     }
+}
+
+/// Warns that the record of this path can't be made.
+pub fn warn_of_record(rt: &HostRuntime, path: &str, error: &Error) {
+    let warning = format_args!("cannot create, and nothing is recorded: {error}");
+    warn_if(rt, true, path, &warning);
 }
 
 /// Warns of a user. The passwords of the example are those of examples/upsd.users.

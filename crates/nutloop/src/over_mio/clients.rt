@@ -10,6 +10,7 @@ use arrayvec::ArrayVec;
 use mio::Registry;
 use mio::net::TcpStream;
 use nutcore::{ClientId, HELD_LIMIT, SESSION_LIMIT, Standing};
+use std::net::Shutdown;
 
 /// The clients by their places. A client keeps its place up to its end.
 pub(super) type Clients = ArrayVec<Option<Client>, SESSION_LIMIT>;
@@ -88,13 +89,16 @@ pub(super) fn take_in(clients: &mut Clients, registry: &Registry, id: ClientId, 
     }
 }
 
-/// A client whose socket is registered for this place. Where that fails it is read at once, and so
-/// closed.
+/// A client whose socket is registered for this place. Where that fails its connection is shut, and
+/// read at once, which closes it.
 fn registered(registry: &Registry, id: ClientId, mut stream: TcpStream, place: usize) -> Client
     requires { place < SESSION_LIMIT }
 {
     let token = Source::Client(place).token();
     let failed = registry.register(&mut stream, token, both_ways()).is_err();
+    if failed {
+        let _ = stream.shutdown(Shutdown::Both);
+    }
     Client {
         id,
         socket: Socket {

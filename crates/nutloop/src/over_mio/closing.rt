@@ -47,8 +47,8 @@ impl Closing {
     }
 }
 
-/// The connection sends nothing more, and is read on up to this second. Where it has ended it is
-/// closed.
+/// The connection sends nothing more, and is read on up to this second. It is closed where all was
+/// read and the client has ended.
 pub(super) fn close(
     closing: &mut Vec<Closing>,
     registry: &Registry,
@@ -58,18 +58,20 @@ pub(super) fn close(
     ensures { vec_len closing.old ≤ CLOSING_LIMIT → vec_len closing.new ≤ CLOSING_LIMIT }
 {
     let (token, interest) = (Source::Closing.token(), Interest::READABLE);
-    if socket.ended
-        || socket.stream.shutdown(Shutdown::Write).is_err()
+    if socket.stream.shutdown(Shutdown::Write).is_err()
         || registry
             .reregister(&mut socket.stream, token, interest)
             .is_err()
     {
         return;
     }
-    if closing.len() >= CLOSING_LIMIT {
-        let _oldest = closing.remove(0);
-    }
     socket.readable = true;
     let until = second.saturating_add(CLOSING_TICKS);
-    let _ = closing.push(Closing { socket, until });
+    let mut connection = Closing { socket, until };
+    if connection.goes_on(second) {
+        if closing.len() >= CLOSING_LIMIT {
+            let _oldest = closing.remove(0);
+        }
+        let _ = closing.push(connection);
+    }
 }

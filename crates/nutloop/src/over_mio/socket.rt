@@ -42,7 +42,8 @@ impl<S: Read + Write> Socket<S> {
     }
 
     /// Reads into the front of the buffer, which isn't empty. While something is owed to the peer
-    /// its end comes later.
+    /// its end comes later. Of one that has ended a read that would wait is its end, since no event
+    /// would report it.
     pub fn read(&mut self, into: &mut [u8], is_owed: bool) -> Result<Got, Broken>
         ensures bound { AtMost result into.new }
     {
@@ -57,7 +58,7 @@ impl<S: Read + Write> Socket<S> {
             }
             Err(error) if error.kind() == ErrorKind::WouldBlock => {
                 self.readable = false;
-                Ok(Got::Later)
+                Ok(if self.ended { Got::End } else { Got::Later })
             }
             Err(_) => {
                 self.ended = true;

@@ -1,11 +1,10 @@
-use Rattle.std.proofs.Common.{◌≡◌, ◌≢◌, [], take, Some}
-use Rattle.nutjournal.specs.Refusals.{after_notes}
+use Rattle.std.proofs.Common.{◌≡◌, Some}
+use Rattle.nutjournal.specs.Tallies.{LeadsTo}
 use Rattle.nutjournal.proofs.journal.Journal.write.Given as goal
 
--- the notes so far have had their turn
+-- within a second only lines came so far
 abbrev pub invariant-loop-note : goal.invariant-loop-note
 invariant-loop-note g l = record {
   moment : l.self.moment ≡ Some l.server.state.moment;
-  goes_on : l.fn.self.moment ≡ Some l.server.state.moment → l.self.refused.items ≡ after_notes l.fn.self.refused.items (take l.note-index l.server.notes);
-  begins : l.fn.self.moment ≢ Some l.server.state.moment → l.self.refused.items ≡ after_notes [] (take l.note-index l.server.notes);
+  goes_on : l.fn.self.moment ≡ Some l.server.state.moment → LeadsTo l.fn.self.tallies l.self.tallies;
 }

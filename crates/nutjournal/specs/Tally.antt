@@ -1,0 +1,115 @@
+-- Which lines of a UPS, or of a client's address, are logged, and which are counted.
+use Rattle.std.specs.Prelude.{◌≡◌, ℕ, ◌+◌, ◌-◌, ◌^◌, ◌<◌, ◌==◌, ◌&&◌, ◌||◌, Bool, List, [], ◌∷◌}
+use Rattle.std.specs.Prelude.{if◌then◌else◌, not, nat_lt, min, max, ◌≤◌, length, slice_index, slice_set}
+use Rattle.std.specs.List.{repeat}
+use Rattle.nutjournal.specs.declared.tally.Kind.{Kind}
+use Rattle.nutjournal.specs.declared.tally.Kind.TheVariants as kinds
+use Rattle.nutjournal.specs.declared.tally.Tally.{Tally}
+use Rattle.nutjournal.specs.declared.tally.TheConstants.{LINE_LIMIT, ALARM_LIMIT, PLAIN_LIMIT, LOSS_LIMIT}
+
+-- The most lines in a second before one of this kind: alarms and orders have one more than all
+-- else, and a forced shutdown one more than these.
+abbrev pub limit_of : Kind → ℕ
+limit_of kinds.ForcedShutdown = LINE_LIMIT
+limit_of kinds.Stale = ALARM_LIMIT
+limit_of kinds.Alarm = ALARM_LIMIT
+limit_of kinds.LowBattery = ALARM_LIMIT
+limit_of kinds.Order = ALARM_LIMIT
+limit_of kind = PLAIN_LIMIT
+
+-- The number of a kind.
+abbrev pub number : Kind → ℕ
+number kinds.Lost = 0
+number kinds.Awaited = 1
+number kinds.Good = 2
+number kinds.Stale = 3
+number kinds.Status = 4
+number kinds.Alarm = 5
+number kinds.LowBattery = 6
+number kinds.LoggedIn = 7
+number kinds.LoggedOut = 8
+number kinds.Order = 9
+number kinds.ForcedShutdown = 10
+number kinds.RefusedLogin = 11
+number kinds.RefusedOrder = 12
+
+-- A count stops at its greatest number.
+abbrev pub one_more : ℕ → ℕ
+one_more n = min (n + 1) (2 ^ 64 - 1)
+
+-- How often the driver was lost in this minute, and whether that is too often.
+abbrev pub losses_after : Kind → ℕ → ℕ
+losses_after kinds.Lost losses = one_more losses
+losses_after kind losses = losses
+
+abbrev pub is_restless : Tally → Bool
+is_restless y = nat_lt LOSS_LIMIT y.losses
+
+-- A line is logged while there are fewer than its limit. Of a driver that was lost too often only
+-- alarms are.
+abbrev pub is_logged : Tally → Kind → Bool
+is_logged y kind =
+    nat_lt y.logged (limit_of kind)
+    && not (limit_of kind == PLAIN_LIMIT && nat_lt LOSS_LIMIT (losses_after kind y.losses))
+
+-- How many of a kind are counted.
+abbrev pub count : Kind → Tally → ℕ
+count kind y = slice_index y.more (number kind)
+
+-- What is not logged is counted.
+abbrev pub after_line : Tally → Kind → Tally
+after_line y kind =
+    if is_logged y kind
+    then record y { losses = losses_after kind y.losses; logged = y.logged + 1 }
+    else record y {
+      losses = losses_after kind y.losses;
+      more = slice_set y.more (number kind) (one_more (count kind y));
+    }
+
+-- What was counted is reported once the second is over: of a driver that was lost too often once
+-- the minute is.
+abbrev pub is_reported : Tally → Bool → Bool
+is_reported y is_minute = is_minute || not (is_restless y)
+
+abbrev pub nothing : List ℕ
+nothing = repeat 13 (0 ∷ [])
+
+abbrev pub reported : Tally → Bool → List ℕ
+reported y is_minute = if is_reported y is_minute then y.more else nothing
+
+abbrev pub after_second : Tally → Bool → Tally
+after_second y is_minute =
+    record {
+      losses = if is_minute then 0 else y.losses;
+      logged = 0;
+      more = if is_reported y is_minute then nothing else y.more;
+    }
+
+-- The tally after lines of these kinds, how many of one kind were logged, and how many there were.
+abbrev pub after_lines : Tally → List Kind → Tally
+after_lines y [] = y
+after_lines y (next ∷ later) = after_lines (after_line y next) later
+
+abbrev pub one_if : Bool → ℕ
+one_if holds = if holds then 1 else 0
+
+abbrev pub is_same : Kind → Kind → Bool
+is_same kind other = number kind == number other
+
+abbrev pub logged_of : Kind → Tally → List Kind → ℕ
+logged_of kind y [] = 0
+logged_of kind y (next ∷ later) =
+    one_if (is_same kind next && is_logged y next) + logged_of kind (after_line y next) later
+
+abbrev pub times : Kind → List Kind → ℕ
+times kind [] = 0
+times kind (next ∷ later) = one_if (is_same kind next) + times kind later
+
+-- Of the lines of a second each is logged, or is counted by its kind, while the count has room. No
+-- more are logged than the limit.
+pub record EachLineIsLoggedOrCounted : Type 0 where
+  pub each : (y : Tally) (kind : Kind) (lines : List Kind)
+      → length y.more ≡ 13 → count kind y + length lines < 2 ^ 64
+      → logged_of kind y lines + count kind (after_lines y lines) ≡ count kind y + times kind lines
+  pub most : (y : Tally) (lines : List Kind)
+      → (after_lines y lines).logged ≤ max y.logged LINE_LIMIT

@@ -1,0 +1,94 @@
+//! The tallies of all UPSs and addresses.
+ghost use Rattle.std.specs.Prelude.{◌≡◌, ◌≤◌};
+ghost use Rattle.nutjournal.specs.Tally.{is_logged};
+ghost use Rattle.nutjournal.specs.Tallies.{after_line_of_client, after_line_of_ups, is, place_of, tally_of_client, tally_of_ups, with_address};
+
+use crate::tally::{Kind, Tally};
+use arrayvec::ArrayVec;
+use nutwords::Address;
+
+/// The most addresses that have a tally of their own. All others have one together, the last one.
+pub const ADDRESS_COUNT: usize = 64;
+
+/// The lines of this second.
+#[derive(Drop)]
+pub struct Tallies {
+    /// By the places of the UPSs. Each place is a byte.
+    pub upses: [Tally; 256],
+    /// The addresses of clients, and the tallies by their places among them.
+    pub addresses: ArrayVec<Option<Address>, ADDRESS_COUNT>,
+    pub clients: [Tally; ADDRESS_COUNT + 1],
+}
+
+impl Tallies {
+    /// Nothing was logged yet.
+    pub fn new() -> Tallies {
+        Tallies {
+            upses: [Tally::default(); 256],
+            addresses: ArrayVec::new(),
+            clients: [Tally::default(); ADDRESS_COUNT + 1],
+        }
+    }
+
+    /// Whether a line of this kind is logged of the UPS of this place. If not, it is counted.
+    pub fn takes_of_ups(&mut self, place: u8, kind: Kind) -> bool
+        ensures logged { result ≡ is_logged (tally_of_ups place self.old) kind }
+        ensures after { self.new ≡ after_line_of_ups place kind self.old }
+    {
+        self.upses[place as usize].takes(kind)
+    }
+
+    /// Whether a line of this kind is logged of a client of this address. If not, it is counted.
+    pub fn takes_of_client(&mut self, address: &Address, kind: Kind) -> bool
+        ensures logged { result ≡ is_logged (tally_of_client address.now self.old) kind }
+        ensures after { self.new ≡ after_line_of_client address.now kind self.old }
+    {
+        let place = self.place_for(address);
+        self.clients[place].takes(kind)
+    }
+
+    /// The place of an address, which is added where it has none and there is room.
+    fn place_for(&mut self, address: &Address) -> usize
+        ensures place { result ≡ place_of address.now self.old.addresses.items }
+        ensures most { result ≤ ADDRESS_COUNT }
+        ensures added { self.new ≡ record self.old {
+          addresses = record { items = with_address address.now self.old.addresses.items };
+        } }
+    {
+        let place = self.place_of(address);
+        if place == self.addresses.len() {
+            let _is_other = self.addresses.try_push(Some(address.copied()));
+        }
+        place
+    }
+
+    /// The address of a place, or a word for all others.
+    pub fn address(&self, place: usize) -> &[u8] {
+        if place < self.addresses.len() {
+            if let Some(address) = &self.addresses[place] {
+                return address.as_bytes();
+            }
+        }
+        b"other addresses"
+    }
+
+    /// The place of an address, or their number where it has none.
+    fn place_of(&self, address: &Address) -> usize
+        ensures place { result ≡ place_of address.now self.now.addresses.items }
+        ensures most { result ≤ ADDRESS_COUNT }
+    {
+        for place in 0..self.addresses.len() {
+            if is(&self.addresses[place], address) {
+                return place;
+            }
+        }
+        self.addresses.len()
+    }
+}
+
+/// Whether that is this address.
+fn is(that: &Option<Address>, address: &Address) -> bool
+    ensures { result ≡ is address.now that.now }
+{
+    matches!(that, Some(that) if that.as_bytes() == address.as_bytes())
+}

@@ -1,0 +1,141 @@
+//! How many lines of a UPS, or of the clients of an address, are logged in a second. All more are
+//! counted.
+ghost use Rattle.std.specs.Prelude.{◌≡◌};
+ghost use Rattle.nutjournal.specs.Tally.{after_line, after_second, is_logged, is_restless, limit_of, reported};
+
+use crate::log_buffer::{CRITICAL, INFO, NOTICE, WARNING};
+use std::fmt::{self, Formatter, Write};
+
+/// The most lines in a second: the last one is left to a forced shutdown.
+pub const LINE_LIMIT: u64 = 10;
+
+/// The most lines in a second before an alarm or an order.
+pub const ALARM_LIMIT: u64 = 9;
+
+/// The most lines in a second before any other line.
+pub const PLAIN_LIMIT: u64 = 8;
+
+/// How often a driver is lost in a minute before its coming and going is only counted.
+pub const LOSS_LIMIT: u64 = 2;
+
+/// What a line says.
+#[derive(Clone, Copy)]
+pub enum Kind {
+    Lost,
+    Awaited,
+    Good,
+    Stale,
+    Status,
+    /// A status with `OB` or `LB`.
+    Alarm,
+    /// A status with both.
+    LowBattery,
+    LoggedIn,
+    LoggedOut,
+    Order,
+    ForcedShutdown,
+    RefusedLogin,
+    RefusedOrder,
+}
+
+/// The kinds: their texts, their priorities, and how many lines in a second may be before one.
+static KINDS: [(&str, u8, u64); 13] = [
+    ("driver lost", WARNING, PLAIN_LIMIT),
+    ("driver connected", INFO, PLAIN_LIMIT),
+    ("data good", INFO, PLAIN_LIMIT),
+    ("data stale", WARNING, ALARM_LIMIT),
+    ("status", INFO, PLAIN_LIMIT),
+    ("status with OB or LB", WARNING, ALARM_LIMIT),
+    ("status with OB and LB", CRITICAL, ALARM_LIMIT),
+    ("logged in", INFO, PLAIN_LIMIT),
+    ("logged out", INFO, PLAIN_LIMIT),
+    ("orders", NOTICE, ALARM_LIMIT),
+    ("forced shutdowns", CRITICAL, LINE_LIMIT),
+    ("refused LOGIN", INFO, PLAIN_LIMIT),
+    ("refused orders", INFO, PLAIN_LIMIT),
+];
+
+impl Kind {
+    /// Its text, its priority, and how many lines in a second may be before it.
+    pub fn row(self) -> (&'static str, u8, u64)
+        ensures { result.2 ≡ limit_of self }
+    {
+        KINDS[self as usize]
+    }
+}
+
+/// What was logged of a UPS, or of the clients of an address.
+#[derive(Clone, Copy, Default)]
+pub struct Tally {
+    /// How often the driver was lost in this minute.
+    losses: u64,
+    /// How many lines were logged in this second.
+    logged: u64,
+    /// How many more there were of each kind, since that was last reported.
+    more: [u64; 13],
+}
+
+impl Tally {
+    /// Whether a line of this kind is logged. If it isn't, it is counted.
+    pub fn takes(&mut self, kind: Kind) -> bool
+        ensures logged { result ≡ is_logged self.old kind }
+        ensures after { self.new ≡ after_line self.old kind }
+    {
+        if matches!(kind, Kind::Lost) {
+            self.losses = self.losses.saturating_add(1);
+        }
+        let (_, _, limit) = kind.row();
+        let is_held = self.is_restless() && limit == PLAIN_LIMIT;
+        let is_logged = self.logged < limit && !is_held;
+        if is_logged {
+            self.logged += 1;
+        } else {
+            let place = kind as usize;
+            self.more[place] = self.more[place].saturating_add(1);
+        }
+        is_logged
+    }
+
+    /// Whether the driver was lost too often in this minute.
+    fn is_restless(&self) -> bool
+        ensures { result ≡ is_restless self.now }
+    {
+        self.losses > LOSS_LIMIT
+    }
+
+    /// A second begins, perhaps the first one of a minute. The lines that were counted, where they
+    /// are to be reported now: those of a driver that was lost too often are once a minute.
+    pub fn next_second(&mut self, is_minute: bool) -> Tally
+        ensures reported { result.more ≡ reported self.old is_minute }
+        ensures after { self.new ≡ after_second self.old is_minute }
+    {
+        let (was, zeros) = (*self, Tally::default());
+        let is_reported = is_minute || !was.is_restless();
+        *self = if is_reported { zeros } else { was };
+        self.losses = if is_minute { 0 } else { was.losses };
+        self.logged = 0;
+        if is_reported { was } else { zeros }
+    }
+
+    /// The priority of the most urgent line that was counted, if one was.
+    pub fn priority(&self) -> Option<u8> {
+        let rows = KINDS.iter().zip(&self.more);
+        rows.filter(|(_, count)| **count > 0)
+            .map(|(row, _)| row.1)
+            .min()
+    }
+}
+
+impl fmt::Display for Tally {
+    fn fmt<W: Write>(&self, f: &mut Formatter<W>) -> fmt::Result {
+        let mut comma = "";
+        for place in 0..KINDS.len() {
+            let count = self.more[place];
+            if count > 0 {
+                write!(f, "{comma}{count} {}", KINDS[place].0)?;
+                comma = ", ";
+            }
+        }
+        Ok(())
+    }
+}
