@@ -9,7 +9,7 @@ PACKAGES = .
 PROGRAMS = upsd upsc upsrw upscmd
 CLIENTS = upsc upsrw upscmd
 ROOT = $(DESTDIR)$(PREFIX)
-UNIT = lib/systemd/system/upsd.service
+UNITS = $(addprefix lib/systemd/system/, upsd.service demodriver@.service)
 DRIVER = lib/voqarchay/demodriver
 
 # What is installed below ROOT, and the list of it that an installation leaves, so that no file of anybody else's is taken
@@ -17,10 +17,10 @@ DRIVER = lib/voqarchay/demodriver
 MINE = share/voqarchay
 DOC = share/doc/voqarchay
 TEXTS = OPERATING.md power-failure.svg FROM_NUT.md INTEROP.md FILES.md CLIENTS.md PROTOCOL.md
-EXAMPLES = $(addprefix $(DOC)/examples/, upses.conf upsd.users cmdvartab from_ups_conf.conf upsd-metrics.service upsd-metrics.timer upsd-alerts.yml demodriver@.service)
+EXAMPLES = $(addprefix $(DOC)/examples/, upses.conf upsd.users cmdvartab from_ups_conf.conf upsd-metrics.service upsd-metrics.timer upsd-alerts.yml record.conf)
 PAGES = $(addprefix share/man/man5/, $(notdir $(wildcard man/*.5))) $(addprefix share/man/man8/, $(notdir $(wildcard man/*.8)))
 COMPLETIONS = $(addprefix share/bash-completion/completions/, $(PROGRAMS))
-FILES = sbin/upsd sbin/from_nut $(addprefix bin/, $(CLIENTS)) $(PAGES) $(addprefix $(DOC)/, $(TEXTS)) $(EXAMPLES) $(COMPLETIONS) $(MINE)/started $(MINE)/metrics $(MINE)/mask $(DRIVER) $(UNIT)
+FILES = sbin/upsd sbin/from_nut $(addprefix bin/, $(CLIENTS)) $(PAGES) $(addprefix $(DOC)/, $(TEXTS)) $(EXAMPLES) $(COMPLETIONS) $(addprefix $(MINE)/, started metrics mask drill) $(DRIVER) $(UNITS)
 LIST = $(ROOT)/$(MINE)/installed
 
 # Proves and builds: a program that isn't proved isn't built. It stands as crates/NAME/out/NAME then.
@@ -48,15 +48,13 @@ install:
 	install -m 644 man/*.5 $(ROOT)/share/man/man5
 	install -m 644 man/*.8 $(ROOT)/share/man/man8
 	install -m 644 $(addprefix docs/, $(TEXTS)) $(ROOT)/$(DOC)
-	for file in $(notdir $(EXAMPLES)); do \
-	    sed 's|/usr/local|$(PREFIX)|' examples/$$file >$(ROOT)/$(DOC)/examples/$$file && chmod 644 $(ROOT)/$(DOC)/examples/$$file || exit 1; \
+	for file in $(EXAMPLES) $(UNITS); do \
+	    sed 's|/usr/local|$(PREFIX)|' examples/$${file##*/} >$(ROOT)/$$file && chmod 644 $(ROOT)/$$file || exit 1; \
 	done
 	for file in $(COMPLETIONS); do install -m 644 tools/completion.bash $(ROOT)/$$file || exit 1; done
 	install crates/demodriver/out/demodriver $(ROOT)/$(DRIVER)
 	install tools/from_nut $(ROOT)/sbin
-	install tools/started tools/metrics tools/mask $(ROOT)/$(MINE)
-	sed 's|/usr/local|$(PREFIX)|' examples/upsd.service >$(ROOT)/$(UNIT)
-	chmod 644 $(ROOT)/$(UNIT)
+	install tools/started tools/metrics tools/mask tools/drill $(ROOT)/$(MINE)
 
 # Takes away what install put there, and no file of yours.
 uninstall:

@@ -36,7 +36,7 @@ dpkg-deb -c "$package" >"$folder/list"
 ! grep -vE ' root/root ' "$folder/list" && ok
 # Below folders that all packages share, each file goes by a name of its own.
 sed -E 's/.* \.(\/[^ ]*)( -> .*)?$/\1/' "$folder/list" | grep -v '/$' >"$folder/paths"
-! grep -vE '^/usr/(lib|share|share/doc)/voqarchay/|/voqarchay-[^/]*$|^/usr/lib/systemd/system/upsd.service$' "$folder/paths" && ok
+! grep -vE '^/usr/(lib|share|share/doc)/voqarchay/|/voqarchay-[^/]*$|^/usr/lib/systemd/system/(upsd|demodriver@).service$' "$folder/paths" && ok
 
 install -d "$root"/var/lib/dpkg/{info,updates,triggers}
 touch "$root"/var/lib/dpkg/{status,available}
@@ -46,8 +46,8 @@ for program in upsc upsrw upscmd; do
     "$usr/bin/voqarchay-$program" --help | cmp -s - "crates/$program/stdout" && ok
 done
 "$usr/sbin/voqarchay-upsd" replay crates/upsd/data/first.txt | cmp -s - crates/upsd/stdout && ok
-[[ -x $root$(sed -n 's/^ExecStart=\([^ ]*\) .*/\1/p' "$usr/lib/systemd/system/upsd.service") ]] && ok
-[[ -x $root$(sed -n 's/^ExecStart=\([^ ]*\) .*/\1/p' "$usr/share/doc/voqarchay/examples/demodriver@.service") ]] && ok
+[[ -f $root$(sed -n 's/^ExecStart=\([^ ]*\) .*/\1/p' "$usr/lib/systemd/system/upsd.service") ]] && ok
+[[ -f $root$(sed -n 's/^ExecStart=\([^ ]*\) .*/\1/p' "$usr/lib/systemd/system/demodriver@.service") ]] && ok
 # The completion is of the package's names, and leaves NUT's programs alone.
 [[ $(bash -c 'source "$1/voqarchay-upsc" && complete -p' _ "$usr/share/bash-completion/completions" |
     grep -c '_voqarchay voqarchay-ups') == 4 ]] && ok
@@ -60,8 +60,48 @@ cited=$(zcat "$usr"/share/man/man[58]/*.gz | sed -nE 's/^\.BR ([a-z._-]+) \(([58
 wanted=$(cd "$usr/share/man" && printf '%s\n' man?/*.gz upsmon.8.gz | sed 's|.*/||; s/\.gz$//' | sort)
 [[ $cited == "$wanted" ]] && ok
 
+# The package's scripts on a machine with systemd, whose UPS su has that status. What they call is in the file `ran`.
+dpkg-deb -e "$package" "$folder/control"
+install -d "$folder/bin"
+cat >"$folder/bin/systemctl" <<'SH'
+#!/bin/sh
+echo "$*" >>"$FOLDER/ran"
+[ "$1" != show ] || echo MAXAGE=15 LISTEN=192.0.2.1:3493
+[ "$*" != 'is-active --quiet nut-server.service' ]
+SH
+cat >"$folder/bin/upsc" <<'SH'
+#!/bin/sh
+[ "$*" != '-l 192.0.2.1:3493' ] || exec echo su
+[ "$*" != 'su@192.0.2.1:3493 ups.status' ] || exec cat "$FOLDER/status"
+SH
+chmod +x "$folder"/bin/*
+script() {
+    echo "$3" >"$folder/status"
+    : >"$folder/ran"
+    sed -e "s|/usr/lib/voqarchay/upsc|upsc|" -e 's|/run/systemd/system|/|' "$folder/control/$1" |
+        FOLDER=$folder PATH=$folder/bin:$PATH sh -s "$2" >"$folder/said" 2>&1
+}
+ran() { grep -q "$1" "$folder/ran"; }
+script postinst configure 'OB DISCHRG' && ! ran try-restart && grep -q 'the UPS su is OB: not restarted' "$folder/said" && ok
+script postinst configure 'OL CHRG' && ran '^try-restart upsd.service$' && [[ ! -s $folder/said ]] && ok
+if script prerm remove 'FSD OL'; then exit 1; fi
+! ran disable && grep -q 'the UPS su is FSD: not removed' "$folder/said" && ok
+script prerm remove OL && ran '^disable --now upsd.service$' && grep -q 'nobody serves' "$folder/said" && ok
+if [[ -n $(type -P lintian) ]]; then
+    lintian --allow-root --fail-on error "$package" >"$folder/said" 2>&1 && ok || grep '^E' "$folder/said"
+else
+    echo 'deb: one check is skipped: lintian is not there'
+    ok
+fi
+
+# What the administrator or from_nut wrote stays until a purge.
+install -d "$root"/etc/{voqarchay,systemd/system/upsd.service.d}
+touch "$root"/etc/{voqarchay/upsd.users,voqarchay/upsd.users~,systemd/system/upsd.service.d/from_nut.conf}
+left() { find "$root" -path "$root/var" -prune -o -not -type d -print; }
 dpkg_there -r voqarchay >"$folder/said" 2>&1 || cat "$folder/said"
-[[ -z $(find "$root" -path "$root/var" -prune -o -not -type d -print) ]] && ok
+[[ $(left | wc -l) == 3 ]] && ok
+dpkg_there --purge voqarchay >"$folder/said" 2>&1 || cat "$folder/said"
+[[ -z $(left) ]] && ok
 [[ $(mine) == "$before" ]] && ok
-echo "deb: $checks of 18 checks"
-[[ $checks == 18 ]]
+echo "deb: $checks of 24 checks"
+[[ $checks == 24 ]]

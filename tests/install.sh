@@ -21,7 +21,7 @@ files >"$folder/first"
 [[ $(wc -l <"$folder/first") -gt 24 ]] && ok
 grep -q 'ExecStart=/usr/sbin/upsd serve' "$unit" && ok
 "$usr/bin/upsc" --help >"$folder/help" && cmp -s "$folder/help" crates/upsc/stdout && ok
-[[ -x $folder/root$(sed -n 's/^ExecStart=\([^ ]*\) .*/\1/p' "$usr/share/doc/voqarchay/examples/demodriver@.service") ]] && ok
+[[ -f $folder/root$(sed -n 's/^ExecStart=\([^ ]*\) .*/\1/p' "$usr/lib/systemd/system/demodriver@.service") ]] && ok
 in_root install
 files | cmp -s - "$folder/first" && ok
 

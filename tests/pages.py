@@ -35,17 +35,18 @@ MESSAGES = [
     ("crates/upsd/src/ending.rt", r'#\[error\("(.*)"\)\]', r"\1"),
     ("crates/nutloop/src/fault.rt", r'#\[error\("(.*)"\)\]', r"\1"),
     ("crates/upsd/src/warnings.rt", r'warn_if\(.*, &"(.*)"\);', r"warning: PATH: \1"),
+    ("crates/upsd/src/warnings.rt", r'format_args!\("([a-z].*)"\);', r"warning: PATH: \1"),
     ("crates/upsd/src/warnings.rt", r'(?:format_args!\("\[\{\}\]: |^ *note\([a-z]+, ")([^"]*)"\)?[,;)].*$', r"warning: PATH: [NAME]: \1"),
     *((path, r'"(.*)"\)?;\n.*, None, &line\);', r"\1") for path in ("crates/nutjournal/src/log_buffer.rt", JOURNAL)),
-    (JOURNAL, r'format_args!\("([a-z].*)"\)(?:\);|;\n.*, ups, &line\);)', r"su: \1"),
-    (JOURNAL, r'DataState::.* &"(.*)"\),', r"su: \1"),
+    (JOURNAL, r'format_args!\("([a-z].*)"\)(?:\);|;\n.*, (?:ups|name\(u\)), &line\);)', r"su: \1"),
+    ("crates/nutjournal/src/tally.rt", r'^    \("(d.*)", [A-Z]+, [A-Z_]+\),', r"su: \1"),
     (JOURNAL, r'format_args!\("(lines .*): \{count\}, the last one"\);', r"su: \1: N, the last one: REASON"),
     (JOURNAL, r'format_args!\("\{who\} (logged out)"\)', r"su: mon@192.0.2.1 \1"),
     (JOURNAL, r'Verb::.* => \(".*", "(.*?)(?<=ordered) [A-Z ]+", .*\),', r"su: mon@192.0.2.1 \1 COMMAND"),
     (JOURNAL, r'Verb::.* => \(".*", "((?!ordered [A-Z ]+").*)", .*\),', r"su: mon@192.0.2.1 \1"),
     (JOURNAL, r'format_args!\("\{who\} (was .*) \{command\}.*"\);', r"su: mon@192.0.2.1 \1 COMMAND: WORD"),
 ]
-FORMS = {"0": "PATH", "1": "LINE", "2": "N", "count": "N", "error": "ERROR", "status": "STATUS"}
+FORMS = {"0": "PATH", "1": "LINE", "2": "N", "count": "N", "error": "ERROR", "status": "STATUS", "more": "N KIND, ..", "state": "DATA", "address": "192.0.2.1"}
 FAULTS = [("crates/nutrequest/src/faults.rt", r'ClientFault::.* => push\(line, b"(.*)"\),', r"\1")]
 
 
@@ -175,7 +176,7 @@ def missing(page, text, names):
 # How a page is written.
 
 ALL_WORDS, TELLING, CELL = 28_000, 0, 60
-SIZES = {"README.md": 650, "docs/COSTS.md": 600, "docs/ARCHITECTURE.md": 3200, "docs/CONTRIBUTING.md": 2500, "docs/PROVED.md": 5000,
+SIZES = {"README.md": 800, "docs/COSTS.md": 750, "docs/ARCHITECTURE.md": 3200, "docs/CONTRIBUTING.md": 2500, "docs/PROVED.md": 5000,
          "docs/DECISIONS.md": 2200, "docs/GLOSSARY.md": 500}  # fmt: skip
 TELLS = re.compile(r"\b(?:tells?|told)\b", re.I)
 
@@ -223,9 +224,10 @@ def main(some):
     texts, names = {page: text_of(page) for page in some or PAGES}, Names(sources())
     failed = [f"{page} names {it}, which isn't there" for page, text in texts.items() for it in missing(page, text, names)]
     failed += [f"{page}: {it}" for page, text in texts.items() for it in prose_faults(page, text)]
-    size, telling = sum(map(words, texts.values())), len(TELLS.findall("\n".join(texts.values())))
+    size = sum(words(text) for page, text in texts.items() if page.startswith("docs/"))
+    telling = len(TELLS.findall("\n".join(texts.values())))
     if not some:
-        failed += [f"all pages have {size:,} words, of at most {ALL_WORDS:,}"] * (size > ALL_WORDS)
+        failed += [f"the pages of docs/ have {size:,} words, of at most {ALL_WORDS:,}"] * (size > ALL_WORDS)
         failed += [f"tell, tells and told are used {telling} times, of at most {TELLING}"] * (telling > TELLING)
         failed += manual_faults()
         failed += ["tools/proved --check"] * subprocess.run(["tools/proved", "--check"]).returncode

@@ -1,6 +1,6 @@
 #!/usr/bin/env bash
-# What goes with the unit: `tools/started`, which says whether the server's start went well, and `tools/metrics`, at a server with
-# a UPS whose data come after a second, one whose data don't come, and one without a driver.
+# What goes with the unit: its pause; `tools/started`, which says whether the server's start went well; `tools/metrics`, at a server
+# with a UPS whose data come after a second, one whose data don't come, and one without a driver, and at odd servers; `tools/drill`.
 set -euo pipefail
 # shellcheck source=tests/built.bash
 source "$(dirname "${BASH_SOURCE[0]}")/built.bash"
@@ -19,12 +19,30 @@ class Driver(socketserver.BaseRequestHandler):
     def handle(self):
         time.sleep(1)
         if sys.argv[1] == "good":
-            self.request.sendall(b'SETINFO ups.status "OB LB"\nSETINFO battery.charge "9.5"\nSETINFO ups.id "a b"\nDUMPDONE\nDATAOK\n')
+            self.request.sendall(b'SETINFO ups.status "OB LB"\nSETINFO battery.charge "9.5"\nSETINFO ups.id "a b"\nSETINFO ups.good "7"\nDUMPDONE\nDATAOK\n')
         while self.request.recv(100):
             pass
 
 socketserver.ThreadingUnixStreamServer(sys.argv[1], Driver).serve_forever()
 PYTHON
+cat >odd.py <<'PYTHON'
+import socket, sys
+
+# A server whose UPS has a quote in its name, and which may never end its last answer.
+ANSWERS = {b"LIST UPS": b'BEGIN LIST UPS\nUPS "a\\"b" x\nEND LIST UPS\n', b"LIST VAR": b'BEGIN LIST VAR\nVAR a b.c "5"\nEND LIST VAR\n',
+           b"GET NUML": b"NUMLOGINS a 2" + b"\n" * (sys.argv[1] == "short")}
+listener = socket.create_server(("127.0.0.1", 0))
+print(listener.getsockname()[1], flush=True)
+client = listener.accept()[0]
+while line := client.recv(100):
+    client.sendall(ANSWERS[line[:8]])
+    while line.startswith(b"GET") and sys.argv[1] == "endless":
+        client.sendall(b"x" * 1000)
+PYTHON
+for kind in short endless; do
+    python3 odd.py $kind >$kind.port 2>/dev/null &
+    running+=("$!")
+done
 for ups in good stale; do
     python3 driver.py $ups &
     running+=("$!")
@@ -52,9 +70,13 @@ took=$((${EPOCHREALTIME/./} - begun))
 first=$address
 serve good stale gone
 begun=$SECONDS
+"$top/tools/metrics" "127.0.0.1:$(cat endless.port)" >endless 2>/dev/null &
+running+=("$!")
 started "$server" "$address" >/dev/null && ((SECONDS - begun >= 9)) && ok
 "$top/tools/metrics" "$address" | grep -v '^ups_time_seconds ' >metrics
 diff "$top/tests/scripts/metrics" metrics && ok
+wait "${running[-1]}" && grep -q '^ups_server_up 0$' endless && ((SECONDS - begun <= 30)) && ok
+[[ $("$top/tools/metrics" "127.0.0.1:$(cat short.port)") == *'ups_b_c{ups="a\"b"} 5'* ]] && ok
 # The server has ended, and another one has the port.
 kill "$server"
 wait "$server" || true
@@ -62,5 +84,53 @@ begun=$SECONDS
 if started "$server" "$first"; then exit 1; fi
 ((SECONDS - begun < 3)) && ok
 "$top/tools/metrics" "$address" 2>/dev/null | grep -q '^ups_server_up 0$' && ok
-echo "unit: $checks of 6 checks"
-[[ $checks == 6 ]]
+
+# Two users, as while systemd starts it: the server is still root's, and may not be signalled.
+serve good
+if [[ $(id -u) == 0 ]]; then
+    MAINPID=$server LISTEN=$address setpriv --reuid 65534 --clear-groups bash -c "$(cat "$top/tools/started")" started && ok
+else
+    echo 'unit: one check is skipped: only root can be two users'
+    ok
+fi
+
+# What the unit does before a start, where systemd has counted so many tries, last saw the server in that second, and the last
+# start failed in that one.
+mkdir bin
+printf '#!/bin/sh\ncat shown\n' >bin/systemctl
+printf '#!/bin/sh\necho "$1"\n' >bin/sleep
+printf '#!/bin/sh\ncat "$NUT_CONFPATH/upsmon.conf"\n' >bin/unshare
+chmod +x bin/*
+pause() {
+    printf 'NRestarts=%s\nActiveExitTimestampMonotonic=%s000000\nInactiveExitTimestampMonotonic=%s000001\n' "$@" >shown
+    PATH=$folder/bin:$PATH bash -c "$(sed -n "s/^ExecStartPre=+.bin.bash -c '\(.*\)'$/\1/p" "$top/examples/upsd.service" | sed 's/\$\$/$/g')"
+}
+# A crash; the ninth one; tries that fail after it; at the boot, when it never was there.
+[[ $(pause 0 100 900) == 0 && $(pause 9 100 100) == 0 ]] && ok
+[[ $(pause 13 100 102) == 0 && $(pause 19 100 116) == 8 && $(pause 90 100 500) == 30 ]] && ok
+[[ $(pause 4 0 90) == 0 && $(pause 9 0 90) == 9 ]] && ok
+# The record's drop-in has the unit's own command.
+[[ $(grep '^ExecStart=.' "$top/examples/record.conf") == "$(grep '^ExecStart=' "$top/examples/upsd.service") --record "* ]] && ok
+
+# While NUT's server runs it has the unit's name, and `enable --now` would leave it there: nothing says to type that.
+! grep -rnE 'enable --now upsd($|[^-])' "$top"/{README.md,docs,man,tools,examples} && ok
+
+# A drill watches one UPS, and shuts nothing down.
+cat >upsmon.conf <<'CONF'
+MONITOR rack@localhost 1 monpri "local pass" primary
+MONITOR lab@m2 0 monpri local_pass primary
+SHUTDOWNCMD "/sbin/shutdown -h +0"
+NOTIFYCMD /sbin/upssched
+POWERDOWNFLAG /etc/killpower
+FINALDELAY 3
+CONF
+PATH=$folder/bin:$PATH NUT_CONFPATH=. "$top/tools/drill" lab@m2 >drilled
+diff - drilled <<'CONF' && ok
+MONITOR drill@m2 1 monpri local_pass primary
+FINALDELAY 3
+MINSUPPLIES 1
+SHUTDOWNCMD "logger -s -t drill would shut down"
+CONF
+if NUT_CONFPATH=. "$top/tools/drill" su@localhost 2>/dev/null; then exit 1; fi
+echo "unit: $checks of 15 checks"
+[[ $checks == 15 ]]
