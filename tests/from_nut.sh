@@ -42,15 +42,17 @@ conf|LISTEN no.such.invalid 3493\n|1: refused: LISTEN no.such.invalid: no addres
 conf|LISTEN 127.0.0.1 3493\nLISTEN 127.0.0.1 3494\n|2: refused: LISTEN at two ports: the server has one
 conf|LISTEN 127.0.0.1\nLISTEN 192.0.2.1\n|2: refused: several LISTEN: leave one, or take -o for every address, 0.0.0.0:3493
 CASES
-host=$(hostname)
-printf 'LISTEN %s\n' "$host" >refused
-[[ $(from_nut conf refused) == *"=LISTEN=$(getent ahosts "$host" | sed -n '1s/ .*//p'):3493" ]] && ok
+mkdir bin
+printf '#!/bin/sh\necho "192.0.2.7       STREAM $2"\n' >bin/getent
+chmod +x bin/getent
+echo 'LISTEN ups.example' >refused
+[[ $(PATH=$folder/bin:$PATH from_nut conf refused) == *'=LISTEN=192.0.2.7:3493' ]] && ok
 
 # The whole migration, below another root: first what it would do, then what keeps it from doing it, then twice.
 export DESTDIR=$folder/root
 from_nut -o -n all . >said 2>&1
 [[ ! -e root ]] && ! grep -q s3 said && grep -q '^systemctl restart upsd$' said && ok
-mkdir etc bin tmp
+mkdir etc tmp
 cp -r ups.conf upsd.users etc
 printf '#!/bin/sh\necho masked\n' >bin/systemctl
 chmod +x bin/systemctl
