@@ -392,6 +392,13 @@ def drivers_that_are_not_there_are_tried_again():
             driver.close()
 
 
+def what_nut_leaves_out_is_left_out_where_that_is_asked_for():
+    with served(TWO, "--nut-bytes") as (_, driver, good):
+        driver.send(b'SETINFO x "B\xc3\xbcro\x7f"\n')
+        good.send(b"\r" * 5000)
+        assert comes(lambda: good.ask(b"GET VAR su x\r\r\n") == b'VAR su x "Bro"\n')
+
+
 def a_silent_driver_is_pinged_and_goes_stale():
     with served(TWO, "--maxage", "3") as (server, driver, good):
         assert driver.line() == b"PING\n"

@@ -12,7 +12,7 @@ _voqarchay_words() {
     upsc:-c | upsc:--attached | upscmd:-l) echo UPS ;;
     upsd:*)
         case $3 in
-        serve) printf '%s\n' --ups --users --vars --ids --listen --maxage --record --record-limit --priorities -h --help ;;
+        serve) printf '%s\n' --ups --users --vars --ids --listen --maxage --record --record-limit --priorities --nut-bytes -h --help ;;
         replay) printf '%s\n' --ups --users --vars -h --help FILE ;;
         help) printf '%s\n' serve replay ;;
         *) printf '%s\n' serve replay help -h --help -V --version ;;

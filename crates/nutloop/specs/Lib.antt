@@ -3,6 +3,7 @@ pub mod Fairness
 pub mod Fault
 pub mod Ids
 pub mod Moved
+pub mod NutBytes
 pub mod Numbers
 pub mod OverMio
 pub mod Pass

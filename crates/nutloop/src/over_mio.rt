@@ -11,6 +11,7 @@ mod clients;
 mod closing;
 mod door;
 mod drivers;
+mod nut_bytes;
 mod pass;
 mod socket;
 mod tokens;
@@ -24,6 +25,7 @@ use door::Door;
 use drivers::{Driver, Drivers, connect, socket_of};
 use mio::{Events, Poll};
 use nutcore::{ClientId, Event, Peer, Server, UpsId};
+use nut_bytes::keep;
 use nutwords::Address;
 use pass::{Pass, Stop, Way};
 use std::alloc::Global;
@@ -56,11 +58,14 @@ pub struct MioSockets<'a, R, F> {
     here: usize,
     failures: u64,
     refusals: u64,
+    /// What NUT's server leaves out of what it reads is left out here too.
+    nut_bytes: bool,
 }
 
 impl<'a, R: Net + Clock, F: Read + Drop> MioSockets<'a, R, F> {
     /// Listens at this address, and connects to the server's drivers. The reader gives the ids for
-    /// tracked orders. Ticks count the whole seconds from now on.
+    /// tracked orders. Ticks count the whole seconds from now on. The CR of clients and the bytes
+    /// above 126 of drivers are left out where that is asked for, as NUT's server does.
     ///
     /// # Errors
     ///
@@ -71,6 +76,7 @@ impl<'a, R: Net + Clock, F: Read + Drop> MioSockets<'a, R, F> {
         address: SocketAddr,
         server: &Server,
         ids: Option<F>,
+        nut_bytes: bool,
     ) -> io::Result<Self> {
         let start = Instant::now(rt)?;
         let events = Events::with_capacity(alloc, EVENT_LIMIT)?;
@@ -97,6 +103,7 @@ impl<'a, R: Net + Clock, F: Read + Drop> MioSockets<'a, R, F> {
             here: 0,
             failures: 0,
             refusals: 0,
+            nut_bytes,
         })
     }
 
@@ -307,6 +314,13 @@ impl<'a, R: Net + Clock, F: Read + Drop> Sockets for MioSockets<'a, R, F> {
                 Some(socket) => socket.read(into, false),
                 None => Ok(Got::End),
             },
+        };
+        let answer = match answer {
+            Ok(Got::Bytes(n)) if self.nut_bytes => match keep(p, &mut into[..n]) {
+                0 => Ok(Got::Later),
+                kept => Ok(Got::Bytes(kept)),
+            },
+            other => other,
         };
         self.count(answer)
     }

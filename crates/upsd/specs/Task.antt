@@ -47,6 +47,7 @@ pub record IsServiceIn (found : ArgMatches) (service : Service) : Type 0 where
   pub max_age : IsMaxAgeIn found service.max_age
   pub record_limit : IsRecordLimitIn found service.record_limit
   pub priorities : IsFlag found (codes "priorities") service.priorities
+  pub nut_bytes : IsFlag found (codes "nut-bytes") service.nut_bytes
 
 -- The task is to serve over the files, as it was found.
 abbrev pub IsServing : ArgMatches → Task → Type 0

@@ -80,7 +80,7 @@ fn serve_command<'a>(alloc: Global) -> Result<Command<'a>, AllocError>
 }
 
 /// The words of `serve`.
-static SERVE_WORDS: [Word; 9] = words! {
+static SERVE_WORDS: [Word; 10] = words! {
     "ups": LongOption("F"), Required, "The list of UPSs, upsd.ups(5); not NUT's ups.conf";
     "users": LongOption("F"), Required, "The users and their rights, upsd.users(5)";
     "vars": LongOption("F"), Free, VARS;
@@ -95,6 +95,8 @@ static SERVE_WORDS: [Word; 9] = words! {
         "The most MiB of that file [without it: 64]";
     "priorities": LongFlag, Free,
         "Begin each line of the journal with its priority, as systemd reads it";
+    "nut-bytes": LongFlag, Free,
+        "Leave out the CR of clients, and bytes above 126 of drivers, as NUT's server does";
 };
 
 /// The words of `replay`.

@@ -73,7 +73,7 @@ fn serve<'a>(
 {
     let ids = ids_in(rt, files.ids)?;
     let address = service.address;
-    match MioSockets::new(rt, rt.alloc(), address, server, ids) {
+    match MioSockets::new(rt, rt.alloc(), address, server, ids, service.nut_bytes) {
         Ok(mut sockets) => match file_for_record(rt, files.to_record) {
             Some(file) => match recorder_in(rt, server, file, service.record_limit) {
                 Ok(recorder) => {

@@ -27,6 +27,8 @@ pub struct Service {
     pub record_limit: u64,
     /// Each line of the journal begins with its priority.
     pub priorities: bool,
+    /// What NUT's server leaves out of what it reads is left out.
+    pub nut_bytes: bool,
 }
 
 /// What the program is to do.
@@ -66,6 +68,7 @@ fn service_named(found: &ArgMatches<'_>) -> Option<Service>
         max_age: max_age_named(found)?,
         record_limit: record_limit_named(found)?,
         priorities: found.get_flag("priorities"),
+        nut_bytes: found.get_flag("nut-bytes"),
     })
 }
 

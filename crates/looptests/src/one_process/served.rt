@@ -27,7 +27,7 @@ impl<'a> Served<'a> {
     pub fn start(rt: &'a HostRuntime, driver: Driver, path: &str) -> Result<Self> {
         let server = server_of(rt.alloc(), path)?;
         let address = ANY_PORT.parse::<SocketAddr>()?;
-        let sockets = MioSockets::new(rt, rt.alloc(), address, &server, None)?;
+        let sockets = MioSockets::new(rt, rt.alloc(), address, &server, None, false)?;
         Ok(Served {
             server,
             sockets,
