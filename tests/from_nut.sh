@@ -52,14 +52,14 @@ from_nut -o -n all . >said 2>&1
 [[ ! -e root ]] && ! grep -q s3 said && grep -q '^systemctl restart upsd$' said && ok
 mkdir etc bin tmp
 cp -r ups.conf upsd.users etc
-printf '#!/bin/sh\necho masked\n' >bin/systemctl
+printf '#!/bin/sh\necho masked\nexit 1\n' >bin/systemctl
 chmod +x bin/systemctl
 # Fails unless these files and words are refused so, and no file is left.
 is_refused() {
     if TMPDIR=$folder/tmp PATH=$folder/bin:$PATH from_nut "${@:2}" -n all etc >said 2>&1; then exit 1; fi
     if grep -q "$1" said && [[ ! -e root && -z $(ls tmp) ]]; then ok; else cat said; fi
 }
-DESTDIR='' is_refused "^from_nut: refused: a unit is masked: "
+DESTDIR='' is_refused "^from_nut: refused: the unit is masked: "
 echo 'LISTEN 0.0.0.0 nut' >etc/upsd.conf
 is_refused "^from_nut: refused: LISTEN: 0.0.0.0:nut isn't an IP address and a port$"
 echo 'LISTEN 192.0.2.1' >etc/upsd.conf

@@ -112,8 +112,10 @@ pause() {
 # The record's drop-in has the unit's own command.
 [[ $(grep '^ExecStart=.' "$top/examples/record.conf") == "$(grep '^ExecStart=' "$top/examples/upsd.service") --record "* ]] && ok
 
-# While NUT's server runs it has the unit's name, and `enable --now` would leave it there: nothing says to type that.
-! grep -rnE 'enable --now upsd($|[^-])' "$top"/{README.md,docs,man,tools,examples} && ok
+# NUT's server doesn't start while the unit is enabled. No start of NUT's is one of the unit's, or ends it.
+[[ $(sed -n 's/^ConditionPathExists=!//p' "$top/examples/unless_upsd.conf") == \
+    "/etc/systemd/system/$(sed -n 's/^WantedBy=//p' "$top/examples/upsd.service").wants/upsd.service" ]] &&
+    ! grep -E '^(Alias|Conflicts)=' "$top/examples/upsd.service" && ok
 
 # A drill watches one UPS, and shuts nothing down.
 cat >upsmon.conf <<'CONF'
