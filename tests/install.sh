@@ -54,6 +54,13 @@ cp "$folder/upsc" "$folder/upscmd"
 [[ $(offered "$folder/upsc" s) == su && $(offered "$folder/upsc" su u) == ups.status ]] && ok
 [[ $(offered "$folder/upscmd" su t) == test.su && $(offered "$folder/upsrw" -s u) == ups.status ]] && ok
 
+# Pages lead to pages that are installed, and nothing cites one that isn't.
+missing() {
+    cd "$usr/share/doc/voqarchay"
+    { grep -oE '\]\([A-Za-z_.-]+' -- *.md | sed 's/.*(//' && grep -rIohE '\<[A-Z_]+\.md\>' "$usr"; } | sort -u | xargs ls 2>&1 >/dev/null
+}
+[[ -z $(missing) ]] && ! grep -rlw README "$usr/share" && ok
+
 in_root uninstall
 [[ -z $(files) ]] && ok
 
@@ -65,5 +72,5 @@ grep -q "usr/bin/upsc isn't of this package" "$folder/said" && ok
 [[ $(files) == "$usr/bin/upsc" ]] && ok
 in_root uninstall
 [[ $(cat "$usr/bin/upsc") == NUT ]] && ok
-echo "install: $checks of 19 checks"
-[[ $checks == 19 ]]
+echo "install: $checks of 20 checks"
+[[ $checks == 20 ]]
