@@ -96,6 +96,6 @@ unset DESTDIR
 "$top/crates/upsd/out/upsd" replay --ups ups.conf.written --users upsd.users.written /dev/null >said
 [[ $(cat said) == $'driver bay-2 sent 0 bytes\ndriver idle sent 0 bytes\ndriver su sent 0 bytes' ]] && ok
 if from_nut users 2>usage; then exit 1; fi
-grep -q '^usage: from_nut' usage && ok
+grep -q '^usage: from_nut' usage && [[ $(from_nut --help) == "$(cat usage)" ]] && ok
 echo "from_nut: $checks of 29 checks"
 [[ $checks == 29 ]]

@@ -16,6 +16,8 @@ in_root() { make -s "$1" DESTDIR="$folder/root" PREFIX=/usr; }
 files() { find "$folder/root" -type f | sort; }
 usr=$folder/root/usr unit=$folder/root/usr/lib/systemd/system/upsd.service
 
+# Without the kit `make` says where to look.
+[[ $(PATH='' "$(python3 -c 'import sys; print(sys.executable)')" tests/build.py upsd 2>&1) == "rt isn't on the PATH: README.md, The toolchain" ]] && ok
 in_root install
 files >"$folder/first"
 [[ $(wc -l <"$folder/first") -gt 24 ]] && ok
@@ -72,5 +74,5 @@ grep -q "usr/bin/upsc isn't of this package" "$folder/said" && ok
 [[ $(files) == "$usr/bin/upsc" ]] && ok
 in_root uninstall
 [[ $(cat "$usr/bin/upsc") == NUT ]] && ok
-echo "install: $checks of 20 checks"
-[[ $checks == 20 ]]
+echo "install: $checks of 21 checks"
+[[ $checks == 21 ]]
