@@ -5,19 +5,22 @@ DESTDIR =
 VERSION := $(shell sed -n 's/^pub const VERSION: &str = "\(.*\)";$$/\1/p' crates/nutversion/src/lib.rt)
 # Where the Debian package is put.
 PACKAGES = .
+# What is installed and packed: the programs for amd64, or after `make arm64` for arm64, crates/NAME/out/NAME.arm64.
+ARCHITECTURE = amd64
+BUILT = $(if $(filter arm64,$(ARCHITECTURE)),.arm64)
 
 PROGRAMS = upsd upsc upsrw upscmd
 CLIENTS = upsc upsrw upscmd
 ROOT = $(DESTDIR)$(PREFIX)
-UNITS = $(addprefix lib/systemd/system/, upsd.service demodriver@.service)
+UNITS = $(addprefix lib/systemd/system/, upsd.service demodriver@.service nut-server.service.d/unless_upsd.conf)
 DRIVER = lib/voqarchay/demodriver
 
 # What is installed below ROOT, and the list of it that an installation leaves, so that no file of anybody else's is taken
 # for ours.
 MINE = share/voqarchay
 DOC = share/doc/voqarchay
-TEXTS = OPERATING.md power-failure.svg FROM_NUT.md INTEROP.md FILES.md CLIENTS.md PROTOCOL.md
-EXAMPLES = $(addprefix $(DOC)/examples/, upses.conf upsd.users cmdvartab from_ups_conf.conf upsd-metrics.service upsd-metrics.timer upsd-alerts.yml record.conf)
+TEXTS = OPERATING.md power-failure.svg FROM_NUT.md INTEROP.md FILES.md CLIENTS.md PROTOCOL.md DRIVER.md
+EXAMPLES = $(addprefix $(DOC)/examples/, upses.conf upsd.users cmdvartab from_ups_conf.conf ups_conf_changed.conf upsd-metrics.service upsd-metrics.timer upsd-alerts.yml record.conf)
 PAGES = $(addprefix share/man/man5/, $(notdir $(wildcard man/*.5))) $(addprefix share/man/man8/, $(notdir $(wildcard man/*.8)))
 COMPLETIONS = $(addprefix share/bash-completion/completions/, $(PROGRAMS))
 FILES = sbin/upsd sbin/from_nut $(addprefix bin/, $(CLIENTS)) $(PAGES) $(addprefix $(DOC)/, $(TEXTS)) $(EXAMPLES) $(COMPLETIONS) $(addprefix $(MINE)/, started metrics mask drill) $(DRIVER) $(UNITS)
@@ -27,6 +30,10 @@ LIST = $(ROOT)/$(MINE)/installed
 all:
 	python3 tests/build.py $(PROGRAMS) demodriver
 
+# The same programs for ARM64, over the libraries that are built: crates/NAME/out/NAME.arm64.
+arm64:
+	python3 arm64/programs.py $(PROGRAMS) demodriver
+
 # The server, a driver without hardware and upsc at work, as they stand built. Ctrl-C ends it.
 demo:
 	@bash tools/demo
@@ -35,16 +42,20 @@ demo:
 test:
 	bash .ci/run
 
+# The scripts of tests/ that need only the programs, over those for ARM64, under qemu-user.
+test-arm64:
+	bash arm64/test
+
 # Installs what stands built, and builds nothing. Where a file of another package stands in the way, nothing is installed.
 install:
-	for program in $(PROGRAMS) demodriver; do test -x crates/$$program/out/$$program || { echo "$$program isn't built: make"; exit 1; }; done
+	for program in $(PROGRAMS) demodriver; do test -x crates/$$program/out/$$program$(BUILT) || { echo "$$program$(BUILT) isn't built: make, make arm64"; exit 1; }; done
 	for file in $(FILES); do \
 	    test ! -e $(ROOT)/$$file || grep -qsxF $$file $(LIST) || { echo "$(ROOT)/$$file isn't of this package: take it away, or take another PREFIX"; exit 1; }; \
 	done
 	install -d $(sort $(dir $(addprefix $(ROOT)/, $(FILES))))
 	printf '%s\n' $(FILES) >$(LIST)
-	install crates/upsd/out/upsd $(ROOT)/sbin/upsd
-	for program in $(CLIENTS); do install crates/$$program/out/$$program $(ROOT)/bin/$$program || exit 1; done
+	install crates/upsd/out/upsd$(BUILT) $(ROOT)/sbin/upsd
+	for program in $(CLIENTS); do install crates/$$program/out/$$program$(BUILT) $(ROOT)/bin/$$program || exit 1; done
 	install -m 644 man/*.5 $(ROOT)/share/man/man5
 	install -m 644 man/*.8 $(ROOT)/share/man/man8
 	install -m 644 $(addprefix docs/, $(TEXTS)) $(ROOT)/$(DOC)
@@ -52,7 +63,7 @@ install:
 	    sed 's|/usr/local|$(PREFIX)|' examples/$${file##*/} >$(ROOT)/$$file && chmod 644 $(ROOT)/$$file || exit 1; \
 	done
 	for file in $(COMPLETIONS); do install -m 644 tools/completion.bash $(ROOT)/$$file || exit 1; done
-	install crates/demodriver/out/demodriver $(ROOT)/$(DRIVER)
+	install crates/demodriver/out/demodriver$(BUILT) $(ROOT)/$(DRIVER)
 	install tools/from_nut $(ROOT)/sbin
 	install tools/started tools/metrics tools/mask tools/drill $(ROOT)/$(MINE)
 
@@ -64,10 +75,14 @@ uninstall:
 
 # Frees what a build leaves but its programs: 7 GB. The next build proves all again.
 clean:
-	find crates -path '*/out/*' $(foreach program,$(PROGRAMS) demodriver,-not -path '*/$(program)/out/$(program)') -delete
+	find crates -path '*/out/*' $(foreach program,$(PROGRAMS) demodriver,-not -path '*/$(program)/out/$(program)' -not -path '*/$(program)/out/$(program).arm64') -delete
 
 # The Debian package of what stands built; it builds nothing.
 deb:
-	bash tools/deb $(VERSION) $(PACKAGES)
+	bash tools/deb $(VERSION) $(PACKAGES) $(ARCHITECTURE)
 
-.PHONY: all clean demo test install uninstall deb
+# The files of a release, in dist/: packages and tar files for both, their sums, and what is proved of them.
+release: all arm64
+	bash tools/release $(VERSION)
+
+.PHONY: all arm64 clean demo test test-arm64 install uninstall deb release

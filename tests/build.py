@@ -5,6 +5,7 @@ usage: build.py NAME ..     at the top of the repository; each stands as crates/
 `rt run` in a program's folder does the same, one crate after another. Ends with status 1 where one isn't proved."""
 import concurrent.futures
 import os
+import re
 import sys
 import tempfile
 
@@ -15,18 +16,28 @@ from kit import rt, rtlib
 LONG = 900
 
 
+def keep(crate, name, call):
+    """Calls, and keeps the last line of the crate's check as out/NAME. Returns whether that went well, and prints why it didn't."""
+    with tempfile.TemporaryFile("a+", errors="replace") as crate.out:
+        status = call()
+        crate.out.seek(0)
+        said = crate.out.read()
+    crate.out = sys.stdout
+    if status:
+        print(said, end="", flush=True)
+    elif last := re.findall(r"^logic=.*\n", said, re.M)[-1:]:
+        with open(f"{crate.folder}/out/{name}", "w", encoding="utf-8") as file:
+            file.writelines(last)
+    return status == 0
+
+
 def build(crate, jobs):
     """Proves and builds a library, or a program, which then says its version, and returns whether that went well."""
     # No lock is held, for which programs over the same libraries would wait: a crate is built once those below it are.
-    crate.held = []
-    with tempfile.TemporaryFile("a+", errors="replace") as crate.out:
-        flags = ["--jobs", str(jobs)]
-        status = crate.run(flags, ["--version"]) if crate.is_program else crate.build_rlib(flags, anew=False)
-        if status:
-            crate.out.seek(0)
-            print(crate.out.read(), end="", flush=True)
-    crate.out = sys.stdout
-    return status == 0
+    crate.held, flags = [], ["--jobs", str(jobs)]
+    if crate.is_program:
+        return keep(crate, "verdict", lambda: crate.run(flags, ["--version"]))
+    return keep(crate, "verdict", lambda: crate.build_rlib(flags, anew=False))
 
 
 def build_all(crates):

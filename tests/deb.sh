@@ -36,7 +36,7 @@ dpkg-deb -c "$package" >"$folder/list"
 ! grep -vE ' root/root ' "$folder/list" && ok
 # Below folders that all packages share, each file goes by a name of its own.
 sed -E 's/.* \.(\/[^ ]*)( -> .*)?$/\1/' "$folder/list" | grep -v '/$' >"$folder/paths"
-! grep -vE '^/usr/(lib|share|share/doc)/voqarchay/|/voqarchay-[^/]*$|^/usr/lib/systemd/system/(upsd|demodriver@).service$' "$folder/paths" && ok
+! grep -vE '^/usr/(lib|share|share/doc)/voqarchay/|/voqarchay-[^/]*$|^/usr/lib/systemd/system/((upsd|demodriver@).service|nut-server.service.d/unless_upsd.conf)$' "$folder/paths" && ok
 
 install -d "$root"/var/lib/dpkg/{info,updates,triggers}
 touch "$root"/var/lib/dpkg/{status,available}
@@ -67,7 +67,7 @@ cat >"$folder/bin/systemctl" <<'SH'
 #!/bin/sh
 echo "$*" >>"$FOLDER/ran"
 [ "$1" != show ] || echo MAXAGE=15 LISTEN=192.0.2.1:3493
-[ "$*" != 'is-active --quiet nut-server.service' ]
+[ "$1" != is-enabled ] || exec test -e "$FOLDER/nut"
 SH
 cat >"$folder/bin/upsc" <<'SH'
 #!/bin/sh
@@ -86,7 +86,9 @@ script postinst configure 'OB DISCHRG' && ! ran try-restart && grep -q 'the UPS 
 script postinst configure 'OL CHRG' && ran '^try-restart upsd.service$' && [[ ! -s $folder/said ]] && ok
 if script prerm remove 'FSD OL'; then exit 1; fi
 ! ran disable && grep -q 'the UPS su is FSD: not removed' "$folder/said" && ok
-script prerm remove OL && ran '^disable --now upsd.service$' && grep -q 'nobody serves' "$folder/said" && ok
+script prerm remove OL && ran '^disable --now upsd.service$' && grep -q 'nobody serves' "$folder/said" && ! ran '^start' && ok
+touch "$folder/nut"
+script prerm remove OL && ran '^start nut-server.service$' && grep -q "NUT's server serves" "$folder/said" && ok
 if [[ -n $(type -P lintian) ]]; then
     lintian --allow-root --fail-on error "$package" >"$folder/said" 2>&1 && ok || grep '^E' "$folder/said"
 else
@@ -103,5 +105,5 @@ dpkg_there -r voqarchay >"$folder/said" 2>&1 || cat "$folder/said"
 dpkg_there --purge voqarchay >"$folder/said" 2>&1 || cat "$folder/said"
 [[ -z $(left) ]] && ok
 [[ $(mine) == "$before" ]] && ok
-echo "deb: $checks of 24 checks"
-[[ $checks == 24 ]]
+echo "deb: $checks of 25 checks"
+[[ $checks == 25 ]]

@@ -54,14 +54,14 @@ from_nut -o -n all . >said 2>&1
 [[ ! -e root ]] && ! grep -q s3 said && grep -q '^systemctl restart upsd$' said && ok
 mkdir etc tmp
 cp -r ups.conf upsd.users etc
-printf '#!/bin/sh\necho masked\n' >bin/systemctl
+printf '#!/bin/sh\necho masked\nexit 1\n' >bin/systemctl
 chmod +x bin/systemctl
 # Fails unless these files and words are refused so, and no file is left.
 is_refused() {
     if TMPDIR=$folder/tmp PATH=$folder/bin:$PATH from_nut "${@:2}" -n all etc >said 2>&1; then exit 1; fi
     if grep -q "$1" said && [[ ! -e root && -z $(ls tmp) ]]; then ok; else cat said; fi
 }
-DESTDIR='' is_refused "^from_nut: refused: a unit is masked: "
+DESTDIR='' is_refused "^from_nut: refused: the unit is masked: "
 echo 'LISTEN 0.0.0.0 nut' >etc/upsd.conf
 is_refused "^from_nut: refused: LISTEN: 0.0.0.0:nut isn't an IP address and a port$"
 echo 'LISTEN 192.0.2.1' >etc/upsd.conf
@@ -98,6 +98,6 @@ unset DESTDIR
 "$top/crates/upsd/out/upsd" replay --ups ups.conf.written --users upsd.users.written /dev/null >said
 [[ $(cat said) == $'driver bay-2 sent 0 bytes\ndriver idle sent 0 bytes\ndriver su sent 0 bytes' ]] && ok
 if from_nut users 2>usage; then exit 1; fi
-grep -q '^usage: from_nut' usage && ok
+grep -q '^usage: from_nut' usage && [[ $(from_nut --help) == "$(cat usage)" ]] && ok
 echo "from_nut: $checks of 29 checks"
 [[ $checks == 29 ]]

@@ -16,6 +16,8 @@ in_root() { make -s "$1" DESTDIR="$folder/root" PREFIX=/usr; }
 files() { find "$folder/root" -type f | sort; }
 usr=$folder/root/usr unit=$folder/root/usr/lib/systemd/system/upsd.service
 
+# Without the kit `make` says where to look.
+[[ $(PATH='' "$(python3 -c 'import sys; print(sys.executable)')" tests/build.py upsd 2>&1) == "rt isn't on the PATH: README.md, The toolchain" ]] && ok
 in_root install
 files >"$folder/first"
 [[ $(wc -l <"$folder/first") -gt 24 ]] && ok
@@ -54,6 +56,13 @@ cp "$folder/upsc" "$folder/upscmd"
 [[ $(offered "$folder/upsc" s) == su && $(offered "$folder/upsc" su u) == ups.status ]] && ok
 [[ $(offered "$folder/upscmd" su t) == test.su && $(offered "$folder/upsrw" -s u) == ups.status ]] && ok
 
+# Pages lead to pages that are installed, and nothing cites one that isn't.
+missing() {
+    cd "$usr/share/doc/voqarchay"
+    { grep -oE '\]\([A-Za-z_.-]+' -- *.md | sed 's/.*(//' && grep -rIohE '\<[A-Z_]+\.md\>' "$usr"; } | sort -u | xargs ls 2>&1 >/dev/null
+}
+[[ -z $(missing) ]] && ! grep -rlw README "$usr/share" && ok
+
 in_root uninstall
 [[ -z $(files) ]] && ok
 
@@ -65,5 +74,5 @@ grep -q "usr/bin/upsc isn't of this package" "$folder/said" && ok
 [[ $(files) == "$usr/bin/upsc" ]] && ok
 in_root uninstall
 [[ $(cat "$usr/bin/upsc") == NUT ]] && ok
-echo "install: $checks of 19 checks"
-[[ $checks == 19 ]]
+echo "install: $checks of 21 checks"
+[[ $checks == 21 ]]

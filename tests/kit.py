@@ -6,7 +6,8 @@ import shutil
 import sys
 
 sys.dont_write_bytecode = True
-KIT = os.path.dirname(os.path.dirname(os.path.realpath(shutil.which("rt"))))
+RT = shutil.which("rt") or sys.exit("rt isn't on the PATH: README.md, The toolchain")
+KIT = os.path.dirname(os.path.dirname(os.path.realpath(RT)))
 LOADER = importlib.machinery.SourceFileLoader("rt_of_the_kit", f"{KIT}/bin/rt")
 rt = importlib.util.module_from_spec(importlib.util.spec_from_loader(LOADER.name, LOADER))
 sys.modules[LOADER.name] = rt

@@ -77,18 +77,18 @@ def manual_faults():
 
 # What a page names.
 
-ROOTS = "crates tests docs tools man examples".split()
+ROOTS = "crates tests docs tools man examples arm64".split()
 IN_CRATES = "src specs proofs args stdout data".split()
 # Of std, of the system and of the kit.
 NOT_OURS = set("""epoll_wait make_contiguous docs/ANSWERS.md
-    --follow-tags --since --test --only --allow-holes --start""".split())
+    --follow-tags --ignore-missing --since --test --only --allow-holes --start""".split())
 OPTION = re.compile(r"(?<![\w-])--[a-z][a-z-]*")
 MESSAGE = re.compile(r"(?:upsd|upsc|upsrw|upscmd|from_nut|started|metrics|demodriver): (.+)")
 
 
 def sources():
     """The text of each source, by its path, without what a build leaves."""
-    found = [glob(f"{folder}/**/*", recursive=True) for folder in ("crates", "tests", "tools")]
+    found = [glob(f"{folder}/**/*", recursive=True) for folder in ("crates", "tests", "tools", "arm64")]
     return {it: text_of(it) for it in ["Makefile", *sum(found, [])] if os.path.isfile(it) and not re.match(r"crates/\w+/out/", it)}
 
 

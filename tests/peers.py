@@ -9,6 +9,7 @@ import os
 import re
 import random
 import shlex
+import shutil
 import signal
 import socket
 import subprocess
@@ -21,7 +22,9 @@ from string import Template
 from replaying import built, difference, sent, text_of
 from serving import Client, OtherServer, Server, comes
 
-DRIVER, UPSD, UPSMON = (f"/lib/nut/{program}" for program in ("dummy-ups", "upsd", "upsmon"))
+# Where Debian has them, by its version: all in the first folder, or the drivers in the second, the others in the third.
+FOLDERS = "/lib/nut:/usr/libexec/nut:/usr/sbin"
+DRIVER, UPSD, UPSMON = (shutil.which(it, path=FOLDERS) or it for it in ("dummy-ups", "upsd", "upsmon"))
 # upsmon keeps its process's id in one file of the machine, whoever starts it.
 MONITOR_ID = "/run/nut/upsmon.pid"
 BUILT = {os.path.basename(program): program for program in built("upsd", "upsc", "upsrw", "upscmd")}

@@ -51,7 +51,7 @@ def the_version_stands_in_one_place():
     for program in PROGRAMS:
         for word in "--version", "-V":
             assert BENCH.ends(word, program=program)[1] == f"{os.path.basename(program)} {version}\n".encode(), program
-    assert printed("make", "-n", "deb") == f"bash tools/deb {version} .\n"
+    assert printed("make", "-n", "deb") == f"bash tools/deb {version} . amd64\n"
     heading, line = re.search(r"^## (.*)\n(.*)", text_of("CHANGELOG.md"), re.M).groups()
     dev = version.endswith("~dev")
     assert heading == "[Unreleased]" if dev else heading.startswith(f"[{version}]"), heading

@@ -1,6 +1,7 @@
 #!/usr/bin/env bash
-# What goes with the unit: its pause; `tools/started`, which says whether the server's start went well; `tools/metrics`, at a server
-# with a UPS whose data come after a second, one whose data don't come, and one without a driver, and at odd servers; `tools/drill`.
+# What goes with the unit: what it does before a start; `tools/started`, which says whether the start went well; `tools/metrics`, at
+# a server with a UPS whose data come after a second, one whose data don't come, and one without a driver, and at odd servers; the
+# rule for a server that is away; `tools/drill`.
 set -euo pipefail
 # shellcheck source=tests/built.bash
 source "$(dirname "${BASH_SOURCE[0]}")/built.bash"
@@ -83,7 +84,11 @@ wait "$server" || true
 begun=$SECONDS
 if started "$server" "$first"; then exit 1; fi
 ((SECONDS - begun < 3)) && ok
-"$top/tools/metrics" "$address" 2>/dev/null | grep -q '^ups_server_up 0$' && ok
+"$top/tools/metrics" "$address" 2>/dev/null >away || true
+grep -q '^ups_server_up 0$' away && ok
+# The rule for that is about what there is then, and names no UPS.
+rule=$(grep -A 5 'alert: NoServer' "$top/examples/upsd-alerts.yml")
+[[ $(grep -o '\<ups_[a-z_]*' <<<"$rule" | sort) == "$(sed -n 's/^\(ups_[a-z_]*\) .*/\1/p' away | sort)" && $rule != *labels.ups* ]] && ok
 
 # Two users, as while systemd starts it: the server is still root's, and may not be signalled.
 serve good
@@ -94,8 +99,16 @@ else
     ok
 fi
 
-# What the unit does before a start, where systemd has counted so many tries, last saw the server in that second, and the last
-# start failed in that one.
+# What the unit does before a start. The users' file is judged where it is, and named so.
+judge() {
+    sh -c "$(sed -n "s/^ExecStartPre=+.bin.sh -c '\(.*users.*\)'$/\1/p" "$top/examples/upsd.service" |
+        sed -e "s|/usr/local/sbin|$top/crates/upsd/out|" -e "s|/etc/voqarchay|$folder|")" 2>said
+}
+mv users upsd.users
+judge && echo here=1 >upsd.users && ! judge && [[ $(head -n 1 said) == "upsd: $folder/upsd.users:1: cause "* ]] && ok
+rm upsd.users
+! judge && [[ $(head -n 1 said) == "upsd: $folder/upsd.users: cannot read" ]] && grep -q '^SyslogIdentifier=upsd$' "$top/examples/upsd.service" && ok
+# The pause, where systemd has counted so many tries, last saw the server in that second, and the last start failed in that one.
 mkdir bin
 printf '#!/bin/sh\ncat shown\n' >bin/systemctl
 printf '#!/bin/sh\necho "$1"\n' >bin/sleep
@@ -112,8 +125,10 @@ pause() {
 # The record's drop-in has the unit's own command.
 [[ $(grep '^ExecStart=.' "$top/examples/record.conf") == "$(grep '^ExecStart=' "$top/examples/upsd.service") --record "* ]] && ok
 
-# While NUT's server runs it has the unit's name, and `enable --now` would leave it there: nothing says to type that.
-! grep -rnE 'enable --now upsd($|[^-])' "$top"/{README.md,docs,man,tools,examples} && ok
+# NUT's server doesn't start while the unit is enabled. No start of NUT's is one of the unit's, or ends it.
+[[ $(sed -n 's/^ConditionPathExists=!//p' "$top/examples/unless_upsd.conf") == \
+    "/etc/systemd/system/$(sed -n 's/^WantedBy=//p' "$top/examples/upsd.service").wants/upsd.service" ]] &&
+    ! grep -E '^(Alias|Conflicts)=' "$top/examples/upsd.service" && ok
 
 # A drill watches one UPS, and shuts nothing down.
 cat >upsmon.conf <<'CONF'
@@ -132,5 +147,5 @@ MINSUPPLIES 1
 SHUTDOWNCMD "logger -s -t drill would shut down"
 CONF
 if NUT_CONFPATH=. "$top/tools/drill" su@localhost 2>/dev/null; then exit 1; fi
-echo "unit: $checks of 15 checks"
-[[ $checks == 15 ]]
+echo "unit: $checks of 18 checks"
+[[ $checks == 18 ]]
