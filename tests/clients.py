@@ -11,6 +11,7 @@ import socket
 import struct
 import subprocess
 import time
+import tty
 from typing import NamedTuple
 
 import serving
@@ -95,11 +96,11 @@ def all_of(wire):
     return b"".join(pieces)
 
 
-def start(words, narrow, closed=()):
+def start(words, narrow, closed=(), stdout=subprocess.PIPE):
     program, *rest = words
     more = {"LD_PRELOAD": NARROW, "LED": LED, **narrow}
     # The pipe has room for all that is printed, which is read last.
-    return subprocess.Popen(serving.closing(closed, [PROGRAMS[program], *rest]), env={**os.environ, **more}, stdin=subprocess.DEVNULL, stdout=subprocess.PIPE, stderr=subprocess.PIPE, pipesize=1 << 20)
+    return subprocess.Popen(serving.closing(closed, [PROGRAMS[program], *rest]), env={**os.environ, **more}, stdin=subprocess.DEVNULL, stdout=stdout, stderr=subprocess.PIPE, pipesize=1 << 20)
 
 
 def check_end(words, child, status, fault):
@@ -282,6 +283,25 @@ def closed_streams():
         yield from (row._replace(closed=streams) for streams in serving.CLOSED)
 
 
+SHOWN = [(b"a\tb\x9b31m", rb"a\tb\x9b31m"), (b"\xc2\x9b31m\xc2\x85", rb"\xc2\x9b31m\xc2\x85"), (b"\xe0\x82\x9b\xff\xc3", rb"\xe0\x82\x9b\xff\xc3"),
+         *[("ÄÖÜß é Û € 𝄞 [31m '".encode(),) * 2]]  # fmt: skip
+
+
+def check_terminal(rows):
+    """A terminal is sent no control character and no byte that isn't UTF-8; a pipe is sent each byte."""
+    for value, shown in rows:
+        row = Row(("upsc", "su", "a"), b'VAR su a "%s"\n' % value, b"GET VAR su a\n", value + b"\n")
+        check([row])
+        reading, terminal = os.openpty()
+        tty.setraw(terminal)
+        child = start(row.words, {"LEAD_TO": str(PEER.port)}, stdout=terminal)
+        assert PEER.meet(row.reply, row.ending, child) == row.sent
+        assert (child.wait(60), got := os.read(reading, 4096)) == (0, shown + b"\n"), got
+        for end in reading, terminal:
+            os.close(end)
+    return f"{len(rows)} rows"
+
+
 # Servers that say nothing, or no more.
 
 WAIT, SLACK = 5.0, 3.0
@@ -336,6 +356,7 @@ def main():
     BENCH.case("unlawful words are bad arguments", check_unlawful, UNLAWFUL)
     BENCH.case("other words and the help", other_words)
     BENCH.case("nothing is sent after a refusal", check, rows("a reply that ends the job"))
+    BENCH.case("a terminal is sent no control character", check_terminal, SHOWN)
     BENCH.case("clients that are stopped go on", check, [Row(LIST, LISTED, ASKED, PRINTED, ending=PAUSES)])
     silent = list(rows("servers that say nothing, or no more", STAYS))
     BENCH.case("a server that says no more is waited for 5 s", check_waits, [*silent, silent[0]._replace(ending=PAUSES)])

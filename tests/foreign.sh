@@ -20,7 +20,8 @@ for program in upsd upsc; do link "$program" "crates/$program/out/$program.o"; d
 crates/demodriver/out/demodriver "$folder/su" >"$folder/driver" 2>&1 &
 running+=("$!")
 printf '[su]\nsocket = %s\n' "$folder/su" >"$folder/ups"
-"$folder/upsd" serve --ups "$folder/ups" --listen 127.0.0.1:0 >"$folder/said" 2>"$folder/journal" &
+: >"$folder/users"
+"$folder/upsd" serve --ups "$folder/ups" --users "$folder/users" --listen 127.0.0.1:0 >"$folder/said" 2>"$folder/journal" &
 running+=("$!")
 for ((i = 0; i < 100; i++)); do
     ups=su@localhost:$(sed -n 's/.*listening on 127.0.0.1:\([0-9]*\).*/\1/p' "$folder/said")

@@ -229,15 +229,13 @@ def parts_of(server, line, kind):
             sum(int(count.split(" ", 1)[0]) for count in counted if re.fullmatch(kind, count.split(" ", 1)[1])))
 
 
-def flip(server, driver, count, *lines):
-    """The driver sends the lines in turn, each in a piece of its own: what comes while a read goes on may still be of its piece."""
-    client = server.client()
+def flip(driver, good, count, *lines):
+    """The driver sends the lines in turn, each once the client has seen what the one before changed."""
     for line in lines * count:
+        seen = good.ask(GET)
         driver.send(line)
-        while not driver.is_read():
+        while good.ask(GET) == seen:
             pass
-        client.ask(b"VER\n")
-    client.close()
 
 
 def log_in_and_out(server):
@@ -257,14 +255,14 @@ def guess(server):
 def of_a_flood_each_line_is_logged_or_counted():
     """Few are logged, whatever floods the journal. a_driver_that_comes_and_goes_is_logged_once_a_minute has one more."""
     for flood, *wanted in [
-            (lambda server, driver: flip(server, driver, 100, b'SETINFO ups.status "OB"\n', b'SETINFO ups.status "OL"\n'),
+            (lambda server, driver, good: flip(driver, good, 100, b'SETINFO ups.status "OB"\n', b'SETINFO ups.status "OL"\n'),
              ("status OB", "status with OB or LB", 100), ("status OL", "status", 101)),
-            (lambda server, driver: flip(server, driver, 100, b"DATASTALE\n", b"DATAOK\n"), ("data stale", "data stale", 100), ("data good", "data good", 101)),
-            (lambda server, driver: log_in_and_out(server), ("mon@127.0.0.1 logged in", "logged in", 100), ("mon@127.0.0.1 logged out", "logged out", 100)),
-            (lambda server, driver: guess(server), ("mon@127.0.0.1 was refused LOGIN: ACCESS-DENIED", "refused LOGIN", 800))]:
-        with served() as (server, driver, _):
+            (lambda server, driver, good: flip(driver, good, 100, b"DATASTALE\n", b"DATAOK\n"), ("data stale", "data stale", 100), ("data good", "data good", 101)),
+            (lambda server, *_: log_in_and_out(server), ("mon@127.0.0.1 logged in", "logged in", 100), ("mon@127.0.0.1 logged out", "logged out", 100)),
+            (lambda server, *_: guess(server), ("mon@127.0.0.1 was refused LOGIN: ACCESS-DENIED", "refused LOGIN", 800))]:
+        with served() as (server, driver, good):
             begin = time.monotonic()
-            flood(server, driver)
+            flood(server, driver, good)
             most = 12 * (time.monotonic() - begin + 2)
             for line, kind, count in wanted:
                 assert comes(lambda: sum(parts_of(server, line, kind)) == count, 3), (line, parts_of(server, line, kind))  # noqa: B023
@@ -282,7 +280,7 @@ def what_matters_most_is_logged_in_a_flood():
             assert guess_at.ask(b"LOGIN su\n" * 50).count(b"ERR") == 50
             assert good.ask(b"INSTCMD su test.battery.start\n" * 50) == b"OK\n" * 50
             assert good.ask(b"FSD su\n") == b"OK FSD-SET\n"
-            flip(server, driver, 10, b'SETINFO ups.status "OL CHRG"\n', b'SETINFO ups.status "OL"\n')
+            flip(driver, good, 10, b'SETINFO ups.status "OL CHRG"\n', b'SETINFO ups.status "OL"\n')
             driver.send(b'SETINFO ups.status "OB LB"\n')
             time.sleep(1.1)
             driver.send(b'SETINFO ups.status "OL"\n')

@@ -26,7 +26,7 @@ from serving import Driver, OtherServer, pouring  # noqa: E402
 
 UPSD, NETBENCH = f"{TOP}/crates/upsd/out/upsd", f"{TOP}/crates/netbench/out/netbench"
 ROUNDS, SEED = 3, 20261127
-SECONDS = 4  # that a row of the times takes a round
+SECONDS = 3  # that a row of the times takes a round
 SIZES = {"small": (100, 10), "large": (4096, 256)}
 CALLGRIND = ["valgrind", "--tool=callgrind", "--callgrind-out-file=/dev/null"]
 COMMANDS = {
@@ -202,7 +202,7 @@ def times():
     with contextlib.ExitStack() as stack:
         servers = {kind: stack.enter_context(served(kind, SIZES)) for kind in COMMANDS}
         for _, drivers in servers.values():
-            drivers["large"].send(b"".join(b"ADDCMD c%d\n" % number for number in range(1024)))
+            drivers["large"].send(b"".join(b"ADDCMD c%d\n" % number for number in range(64)))
         for _ in range(ROUNDS):
             rates = []
             for what, busy in MEANWHILE.items():

@@ -110,7 +110,7 @@ module _ {R W O : Type 0} (remaining : R → Option (List ℕ)) (failures : R �
       → NoneFailed (failures (reader_of r.session)) (failures (reader_of r.session_after))
       → NoneFailed (write_failures (writer_of r.session)) (write_failures (writer_of r.session_after))
       → NoneFailed (print_failures r.out) (print_failures r.out_after) → r.result ≢ Err Memory
-      → Answers contents (printed job.requests.items job.form (unread_of r.session ++ bytes)) r.out r.result r.out_after
+      → Answers contents false (printed job.requests.items job.form (unread_of r.session ++ bytes)) r.out r.result r.out_after
 
   pub handed : (job : Job) (requests : List Request) (form : Form) (bytes text : List ℕ) (r : ProgramRun R W O)
       → Runs job r → Asks requests form job → printed requests form bytes ≡ Prints text → IsHanded remaining failures write_failures contents print_failures bytes r → IsPrinted remaining failures write_failures contents print_failures text r
@@ -121,5 +121,5 @@ module _ {R W O : Type 0} (remaining : R → Option (List ℕ)) (failures : R �
       ∙ ap (λ rs. printed rs job.form bytes) asks.requests_are
       ∙ ap (λ f. printed requests f bytes) asks.form_is
       ∙ prints in
-      let k = subst (λ p. Answers contents p r.out r.result r.out_after) same answers in
+      let k = subst (λ p. Answers contents false p r.out r.result r.out_after) same answers in
       record { done = k.0; output = k.1 }

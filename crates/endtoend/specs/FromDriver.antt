@@ -1,4 +1,4 @@
--- From the driver to the screen: a client prints what the driver set last.
+-- From the driver to the printed text: a client prints what the driver set last.
 use Rattle.std.specs.Prelude.{◌≡◌, ℕ, false, List, [], ◌∷◌, ◌++◌, Some, codes, nat_eq, IsTrue}
 use Rattle.std.specs.List.{starts_with}
 use Rattle.nutwords.specs.Reading.{is_name, is_ups_name}

@@ -85,8 +85,8 @@ pub fn upsc_prints_how_far_an_order_has_come()
     ensures { UpscPrintsHowFarAnOrderHasCome }
 {}
 
-/// From the driver to the screen: in every run from a new server, `upsc` prints what the driver's
-/// last accepted line on a variable set, only while it is fresh.
+/// From the driver to the printed text: in every run from a new server, `upsc` prints what the
+/// driver's last accepted line on a variable set, only while it is fresh.
 pub fn upsc_prints_what_the_driver_set_last()
     ensures variable { UpscPrintsWhatTheDriverSetLast }
     ensures variables { UpscPrintsAllThatTheDriverSetLast }

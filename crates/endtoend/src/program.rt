@@ -10,8 +10,8 @@ use nutclient::{Job, run};
 use nutio::{Sink, Source};
 use nutrequest::{ClientFault, Session};
 
-/// Does the job by `run`, as the programs do. Where the session's reader gives what the server
-/// answers, in whatever pieces, it prints what the server holds, and nothing else.
+/// Does the job by `run`, as the programs do into a pipe or a file. Where the session's reader gives
+/// what the server answers, in whatever pieces, it prints what the server holds, and nothing else.
 pub fn print_what_is_held<R: Source, W: Sink, O: Sink>(
     session: &mut Session<R, W>,
     out: &mut O,
@@ -49,5 +49,5 @@ pub fn print_what_is_held<R: Source, W: Sink, O: Sink>(
     upsrw_prints_the_variables();
     upscmd_prints_the_commands();
     upsc_prints_the_upses();
-    run(session, out, job)
+    run(session, out, false, job)
 }

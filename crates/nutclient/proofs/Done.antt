@@ -1,5 +1,5 @@
 -- What a status says of a job.
-use Rattle.std.proofs.Common.{◌≡◌, ℕ, ◌≤◌, List, [], ◌∷◌, ◌++◌, Option, Result, Ok, Err, refl, sym, ap, subst, ◌∙◌, arith, append-nil}
+use Rattle.std.proofs.Common.{◌≡◌, Bool, ℕ, ◌≤◌, List, [], ◌∷◌, ◌++◌, Option, Result, Ok, Err, refl, sym, ap, subst, ◌∙◌, arith, append-nil}
 use Rattle.std.specs.List.{flat_map}
 use Rattle.nutio.specs.Ends.{Written}
 use Rattle.nutrequest.specs.Fault.{status_of}
@@ -44,26 +44,26 @@ status_one Memory none = refl
 
 -- a new session has read nothing
 from_new : {R W O : Type 0} (rem : R → Option (List ℕ)) (rf : R → ℕ) (con : W → Option (List ℕ)) (wf : W → ℕ) (oc : O → Option (List ℕ)) (of : O → ℕ)
-    (requests : List Request) (form : Form) (old : List ℕ) (first reader : R) (begun writer : W) (out : O) (outcome : Result (Unit {0}) ClientFault) (new : List ℕ) (after : R) (sent : W) (then : O)
+    (requests : List Request) (form : Form) (is_terminal : Bool) (old : List ℕ) (first reader : R) (begun writer : W) (out : O) (outcome : Result (Unit {0}) ClientFault) (new : List ℕ) (after : R) (sent : W) (then : O)
     → old ≡ [] → first ≡ reader → begun ≡ writer
-    → RunGives rem rf con wf oc of requests form old first begun out outcome new after sent then → RunGives rem rf con wf oc of requests form [] reader writer out outcome new after sent then
-from_new rem rf con wf oc of requests form old first reader begun writer out outcome new after sent then o f b g =
-    subst (λ x. RunGives rem rf con wf oc of requests form [] reader x out outcome new after sent then) b
-    (subst (λ x. RunGives rem rf con wf oc of requests form [] x begun out outcome new after sent then) f
-    (subst (λ x. RunGives rem rf con wf oc of requests form x first begun out outcome new after sent then) o g))
+    → RunGives rem rf con wf oc of requests form is_terminal old first begun out outcome new after sent then → RunGives rem rf con wf oc of requests form is_terminal [] reader writer out outcome new after sent then
+from_new rem rf con wf oc of requests form is_terminal old first reader begun writer out outcome new after sent then o f b g =
+    subst (λ x. RunGives rem rf con wf oc of requests form is_terminal [] reader x out outcome new after sent then) b
+    (subst (λ x. RunGives rem rf con wf oc of requests form is_terminal [] x begun out outcome new after sent then) f
+    (subst (λ x. RunGives rem rf con wf oc of requests form is_terminal x first begun out outcome new after sent then) o g))
 
 module _ {R W O E : Type 0} (rem : R → Option (List ℕ)) (rf : R → ℕ) (con : W → Option (List ℕ)) (wf : W → ℕ) (oc : O → Option (List ℕ)) (of : O → ℕ)
-    (ec : E → Option (List ℕ)) (ef : E → ℕ) (program : Program) (requests : List Request) (form : Form) (reader : R) (writer : W) (out : O) (err : E)
+    (ec : E → Option (List ℕ)) (ef : E → ℕ) (program : Program) (requests : List Request) (form : Form) (is_terminal : Bool) (reader : R) (writer : W) (out : O) (err : E)
     (new : List ℕ) (after : R) (sent : W) (then : O) (told : E) (status : ℕ) where
-  fault_status : (fault : ClientFault) → RunGives rem rf con wf oc of requests form [] reader writer out (Err fault) new after sent then → status ≡ status_of fault → status ≡ 1
-  fault_status fault g e = e ∙ status_one fault (λ bad. no_word_fault rem rf con wf oc of requests form [] new reader after writer sent out then (Err fault) g (ap Err bad))
+  fault_status : (fault : ClientFault) → RunGives rem rf con wf oc of requests form is_terminal [] reader writer out (Err fault) new after sent then → status ≡ status_of fault → status ≡ 1
+  fault_status fault g e = e ∙ status_one fault (λ bad. no_word_fault rem rf con wf oc of requests form is_terminal [] new reader after writer sent out then (Err fault) g (ap Err bad))
 
-  status_most : (outcome : Result (Unit {0}) ClientFault) → RunGives rem rf con wf oc of requests form [] reader writer out outcome new after sent then → EndsBy ec ef program outcome err status told → status ≤ 1
+  status_most : (outcome : Result (Unit {0}) ClientFault) → RunGives rem rf con wf oc of requests form is_terminal [] reader writer out outcome new after sent then → EndsBy ec ef program outcome err status told → status ≤ 1
   status_most (Ok done) g e = omega (arith, e.0)
   status_most (Err fault) g e = omega (arith, fault_status fault g e.0)
 
-  is_done : (outcome : Result (Unit {0}) ClientFault) → RunGives rem rf con wf oc of requests form [] reader writer out outcome new after sent then → EndsBy ec ef program outcome err status told → status ≡ 0
-      → IsDone rem rf con wf oc of requests form reader writer out after sent then
+  is_done : (outcome : Result (Unit {0}) ClientFault) → RunGives rem rf con wf oc of requests form is_terminal [] reader writer out outcome new after sent then → EndsBy ec ef program outcome err status told → status ≡ 0
+      → IsDone rem rf con wf oc of requests form is_terminal reader writer out after sent then
   is_done (Err fault) g e zero = absurd (omega (arith, fault_status fault g e.0, zero))
   is_done (Ok done) g e zero =
       let came : List ℕ = g.1.0 in
@@ -81,9 +81,9 @@ module _ {R W O E : Type 0} (rem : R → Option (List ℕ)) (rf : R → ℕ) (co
 
   -- what a new session's run and what is reported of it say together
   pub ends : (old : List ℕ) (first : R) (begun : W) (outcome : Result (Unit {0}) ClientFault) → old ≡ [] → first ≡ reader → begun ≡ writer
-      → RunGives rem rf con wf oc of requests form old first begun out outcome new after sent then → EndsBy ec ef program outcome err status told
-      → ((o : Result (Unit {0}) ClientFault) × RunGives rem rf con wf oc of requests form [] reader writer out o new after sent then × EndsBy ec ef program o err status told)
-      × (status ≡ 0 → IsDone rem rf con wf oc of requests form reader writer out after sent then) × (status ≤ 1)
+      → RunGives rem rf con wf oc of requests form is_terminal old first begun out outcome new after sent then → EndsBy ec ef program outcome err status told
+      → ((o : Result (Unit {0}) ClientFault) × RunGives rem rf con wf oc of requests form is_terminal [] reader writer out o new after sent then × EndsBy ec ef program o err status told)
+      × (status ≡ 0 → IsDone rem rf con wf oc of requests form is_terminal reader writer out after sent then) × (status ≤ 1)
   ends old first begun outcome o f b g e =
-      let run = from_new rem rf con wf oc of requests form old first reader begun writer out outcome new after sent then o f b g in
+      let run = from_new rem rf con wf oc of requests form is_terminal old first reader begun writer out outcome new after sent then o f b g in
       ((outcome, run, e), (λ zero. is_done outcome run e zero), status_most outcome run e)

@@ -1,5 +1,5 @@
 -- With which status a program ends, and what it prints on standard error.
-use Rattle.std.specs.Prelude.{◌≡◌, ℕ, List, [], ◌∷◌, ◌++◌, Option, Result, Ok, Err, codes}
+use Rattle.std.specs.Prelude.{◌≡◌, ℕ, Bool, List, [], ◌∷◌, ◌++◌, Option, Result, Ok, Err, codes}
 use Rattle.std.specs.List.{flat_map}
 use Rattle.nutio.specs.Ends.{Received, Written}
 use Rattle.nutrequest.specs.Request.{request_line}
@@ -12,6 +12,7 @@ use Rattle.nutio.specs.declared.ends.Failed.{Failed}
 use Rattle.nutrequest.specs.declared.faults.ClientFault.{ClientFault}
 use Rattle.nutclient.specs.Requests.{last_reply}
 use Rattle.nutclient.specs.Printed.{text_of}
+use Rattle.nutclient.specs.Shown.{shown}
 use Rattle.nutclient.specs.declared.form.Form.{Form}
 use Rattle.nutclient.specs.declared.program.Program.{Program}
 use Rattle.nutclient.specs.declared.program.Program.TheVariants.{Upsc, Upsrw, Upscmd}
@@ -38,12 +39,12 @@ EndsBy contents failures program (Err fault) err status after =
 -- is a whole reply to each; and the output took the text of the last one's items.
 pub record IsDone {R W O : Type 0} (remaining : R → Option (List ℕ)) (failures : R → ℕ)
     (contents : W → Option (List ℕ)) (write_failures : W → ℕ) (printed : O → Option (List ℕ))
-    (print_failures : O → ℕ) (requests : List Request) (form : Form) (reader : R) (writer : W)
-    (out : O) (after : R) (sent : W) (then : O) : Type 0 where
+    (print_failures : O → ℕ) (requests : List Request) (form : Form) (is_terminal : Bool)
+    (reader : R) (writer : W) (out : O) (after : R) (sent : W) (then : O) : Type 0 where
   pub came : List ℕ
   pub items : List Item
   pub rest : List ℕ
   pub read : Received remaining failures reader came after
   pub written : Written contents write_failures writer (flat_map request_line requests) sent
   pub replies : last_reply requests came ≡ Whole items rest
-  pub output : Written printed print_failures out (text_of form items) then
+  pub output : Written printed print_failures out (shown is_terminal (text_of form items)) then

@@ -1,4 +1,5 @@
 pub mod Requests
+pub mod Shown
 pub mod Printed
 pub mod Target
 pub mod Job

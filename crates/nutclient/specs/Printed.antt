@@ -1,5 +1,5 @@
 -- What a client prints of a reply.
-use Rattle.std.specs.Prelude.{◌≡◌, ℕ, List, [], ◌∷◌, ◌++◌, ◌⊎◌, Option, Result, Ok, Err, codes}
+use Rattle.std.specs.Prelude.{◌≡◌, ℕ, Bool, List, [], ◌∷◌, ◌++◌, ◌⊎◌, Option, Result, Ok, Err, codes}
 use Rattle.std.specs.List.{flat_map}
 use Rattle.std.specs.Io.KnownBytes.{Appends}
 use Rattle.nutrequest.specs.Reply.{Reply, Whole, Bad, Unfinished, Refused}
@@ -10,6 +10,7 @@ use Rattle.nutrequest.specs.declared.faults.ClientFault.{ClientFault}
 use Rattle.nutrequest.specs.declared.faults.ClientFault.TheVariants.{EarlyEnd, ErrWord, BadReply}
 use Rattle.nutrequest.specs.declared.faults.ClientFault.TheVariants.{Write, Memory}
 use Rattle.nutclient.specs.Requests.{RequestsGive, last_reply}
+use Rattle.nutclient.specs.Shown.{shown}
 use Rattle.nutclient.specs.declared.form.Form.{Form}
 use Rattle.nutclient.specs.declared.form.Form.TheVariants.{Name, Value, Colon, Equals}
 
@@ -53,29 +54,31 @@ PrintGives contents failures text out (Err Memory) after = after ≡ out
 PrintGives contents failures text out result after = ⊥
 
 -- What was sent, what came and what was printed, for each result of a job: the replies are whole,
--- and what is printed is the text of the last one's items; or the requests end with the fault, and
--- nothing is printed.
+-- and what is printed is the text of the last one's items, for a terminal or not; or the requests
+-- end with the fault, and nothing is printed.
 abbrev pub RunGives : {R W O : Type 0} → (R → Option (List ℕ)) → (R → ℕ) → (W → Option (List ℕ))
-    → (W → ℕ) → (O → Option (List ℕ)) → (O → ℕ) → List Request → Form → List ℕ → R → W → O
+    → (W → ℕ) → (O → Option (List ℕ)) → (O → ℕ) → List Request → Form → Bool → List ℕ → R → W → O
     → Result (Unit {0}) ClientFault → List ℕ → R → W → O → Type 0
-RunGives remaining failures contents write_failures printed_so_far print_failures requests form old
-    reader writer out (Ok done) new after sent then =
+RunGives remaining failures contents write_failures printed_so_far print_failures requests form
+    is_terminal old reader writer out (Ok done) new after sent then =
     (items : List Item)
     × RequestsGive remaining failures contents write_failures requests old reader writer
     (Ok items) new after sent
-    × PrintGives printed_so_far print_failures (text_of form items) out (Ok done) then
-RunGives remaining failures contents write_failures printed_so_far print_failures requests form old
-    reader writer out (Err fault) new after sent then =
+    × PrintGives printed_so_far print_failures (shown is_terminal (text_of form items)) out
+    (Ok done) then
+RunGives remaining failures contents write_failures printed_so_far print_failures requests form
+    is_terminal old reader writer out (Err fault) new after sent then =
     (RequestsGive remaining failures contents write_failures requests old reader writer
     (Err fault) new after sent × (then ≡ out))
     ⊎ ((items : List Item)
     × RequestsGive remaining failures contents write_failures requests old reader writer
     (Ok items) new after sent
-    × PrintGives printed_so_far print_failures (text_of form items) out (Err fault) then)
+    × PrintGives printed_so_far print_failures (shown is_terminal (text_of form items)) out
+    (Err fault) then)
 
 -- The result and what the output took, by what is to be printed.
-abbrev pub Answers : {O : Type 0} → (O → Option (List ℕ)) → Printed → O
+abbrev pub Answers : {O : Type 0} → (O → Option (List ℕ)) → Bool → Printed → O
     → Result (Unit {0}) ClientFault → O → Type 0
-Answers contents (Prints text) out result after =
-    (result ≡ Ok tt) × Appends (contents out) (contents after) text
-Answers contents (Faults fault) out result after = (result ≡ Err fault) × (after ≡ out)
+Answers contents is_terminal (Prints text) out result after =
+    (result ≡ Ok tt) × Appends (contents out) (contents after) (shown is_terminal text)
+Answers contents is_terminal (Faults fault) out result after = (result ≡ Err fault) × (after ≡ out)

@@ -15,41 +15,44 @@ use nutrequest::{ClientFault, Session, ask};
 use std::alloc::Global;
 
 /// Does the job over a new session with these two ends: what a client program does once it is
-/// connected. It prints on `out` and reports a fault on `err`. Gives the exit status, and the
-/// session that it leaves.
+/// connected. It prints on `out`, which may be a terminal, and reports a fault on `err`. Gives the
+/// exit status, and the session that it leaves.
 pub fn do_job<R: Source, W: Sink, O: Sink, E: Sink>(
     alloc: Global,
     reader: R,
     writer: W,
     out: &mut O,
     err: &mut E,
+    is_terminal: bool,
     program: Program,
     job: &Job,
 ) -> (u8, Session<R, W>)
     // What was sent, what came and what was printed, and by that the status and what is reported.
     ensures gives { (outcome : Result (Unit {0}) ClientFault)
         × RunGives R.remaining R.failures W.contents W.failures O.contents O.failures
-        job.now.requests.items job.now.form [] reader writer out.old outcome
+        job.now.requests.items job.now.form is_terminal [] reader writer out.old outcome
         (unread_of result.1) (reader_of result.1) (writer_of result.1) out.new
         × EndsBy E.contents E.failures program outcome err.old result.0 err.new }
     // Status 0 says that each request was sent once, and that what is printed is the last reply.
     ensures done { result.0 ≡ 0 → IsDone R.remaining R.failures W.contents W.failures O.contents
-        O.failures job.now.requests.items job.now.form reader writer out.old
+        O.failures job.now.requests.items job.now.form is_terminal reader writer out.old
         (reader_of result.1) (writer_of result.1) out.new }
     ensures most { result.0 ≤ 1 }
 {
     let mut session = Session::new(alloc, reader, writer);
-    match run(&mut session, out, job) {
+    match run(&mut session, out, is_terminal, job) {
         Ok(()) => (0, session),
         Err(fault) => (report(err, program, &fault), session),
     }
 }
 
 /// Does the job: sends its requests, each once the one before is granted, and prints the items of
-/// the last reply once it is whole. This is what upsc, upsrw and upscmd do.
+/// the last reply once it is whole. A terminal is sent no control character of theirs. This is what
+/// upsc, upsrw and upscmd do.
 pub fn run<R: Source, W: Sink, O: Sink>(
     session: &mut Session<R, W>,
     out: &mut O,
+    is_terminal: bool,
     job: &Job,
 ) -> Result<(), ClientFault>
     // After a fault every further job is refused, and changes nothing.
@@ -58,7 +61,7 @@ pub fn run<R: Source, W: Sink, O: Sink>(
     // What was sent, what came and what was printed, for each result.
     ensures gives { session.old.is_over ≡ false
         → RunGives R.remaining R.failures W.contents W.failures O.contents O.failures
-        job.now.requests.items job.now.form
+        job.now.requests.items job.now.form is_terminal
         (unread_of session.old) (reader_of session.old) (writer_of session.old) out.old result
         (unread_of session.new) (reader_of session.new) (writer_of session.new) out.new }
     // Where no call failed and memory was there, the bytes decide what is printed, however they are
@@ -69,7 +72,7 @@ pub fn run<R: Source, W: Sink, O: Sink>(
         → NoneFailed (W.failures (writer_of session.old)) (W.failures (writer_of session.new))
         → NoneFailed (O.failures out.old) (O.failures out.new)
         → result ≢ Err ClientFault.Memory
-        → Answers O.contents
+        → Answers O.contents is_terminal
         (printed job.now.requests.items job.now.form (unread_of session.old ++ bytes))
         out.old result out.new }
     ensures fault { OnErr result (session.new.is_over ≡ true) }
@@ -86,7 +89,7 @@ pub fn run<R: Source, W: Sink, O: Sink>(
             Err(fault) => return Err(fault),
         };
     }
-    let printed = print(session.alloc, job.form, items.as_slice(), out);
+    let printed = print(session.alloc, job.form, is_terminal, items.as_slice(), out);
     session.is_over = printed.is_err();
     printed
 }

@@ -13,6 +13,7 @@ pub mod laws;
 mod limits;
 mod printed;
 mod program;
+mod shown;
 mod start;
 mod target;
 

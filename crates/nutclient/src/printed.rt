@@ -1,7 +1,9 @@
 //! What is printed of the items of a reply.
 ghost use Rattle.nutclient.specs.Printed.{text_of, PrintGives};
+ghost use Rattle.nutclient.specs.Shown.{shown};
 
 use crate::Form;
+use crate::shown::shown;
 use nutio::{Sink, send};
 use nutrequest::{ClientFault, Item};
 use std::alloc::Global;
@@ -10,10 +12,12 @@ use std::alloc::Global;
 pub(crate) fn print<O: Sink>(
     alloc: Global,
     form: Form,
+    is_terminal: bool,
     items: &[Item],
     out: &mut O,
 ) -> Result<(), ClientFault>
-    ensures { PrintGives O.contents O.failures (text_of form items.now) out.old result out.new }
+    ensures { PrintGives O.contents O.failures (shown is_terminal (text_of form items.now))
+        out.old result out.new }
 {
     let mut text = Vec::new(alloc);
     for item in items {
@@ -29,5 +33,6 @@ pub(crate) fn print<O: Sink>(
         text.extend_from_slice(end)?;
         text.extend_from_slice(b"\n")?;
     }
+    let text = shown(alloc, is_terminal, text)?;
     send(out, text.as_slice()).map_err(|_| ClientFault::Write)
 }

@@ -19,7 +19,7 @@ use nutio::{CountedReader, CountedWriter};
 use nutrequest::ClientFault;
 use nutversion::VERSION;
 use std::alloc::Global;
-use std::io;
+use std::io::{self, IsTerminal};
 use std::process::ExitCode;
 
 /// Does what the program's words ask for, and reports a fault.
@@ -62,6 +62,7 @@ fn obey<C: Client>(rt: &HostRuntime, words: &[String]) -> Result<u8, ClientFault
         CountedWriter::new(Patient(&stream)),
         &mut CountedWriter::new(io::writer(rt)),
         &mut CountedWriter::new(io::writer(&stderr)),
+        rt.stdout().is_terminal(),
         C::PROGRAM,
         &job,
     );

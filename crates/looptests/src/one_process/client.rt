@@ -35,7 +35,7 @@ fn print(
         CountedWriter::new(stream),
     );
     let mut out = CountedWriter::new(io::writer(rt));
-    run(&mut session, &mut out, job)
+    run(&mut session, &mut out, false, job)
 }
 
 /// A reader that waits by giving turns to the server.

@@ -3,6 +3,7 @@ use Rattle.std.proofs.lemmas.List.{at_drop_all}
 use Rattle.nutrequest.specs.State.{unread_of, reader_of, writer_of}
 use Rattle.nutrequest.specs.declared.request.Request.{Request}
 use Rattle.nutclient.specs.Requests.{RequestsGive}
+use Rattle.nutclient.specs.Shown.{shown}
 use Rattle.nutclient.specs.Printed.{PrintGives, RunGives, text_of}
 use Rattle.nutclient.proofs.Printing.{run_printed}
 use Rattle.nutclient.proofs.Underway.{IsUnderWay, starts, goes_further, ends_well, ends_early, comes_next}
@@ -81,9 +82,9 @@ returns-clause-gives g c h =
     let way = subst (λ rs. IsUnderWay g.R.Source.remaining g.R.Source.failures g.W.Sink.contents g.W.Sink.failures all old reader writer items rs kept after sent)
     none l.invariant.under_way in
     let given = ends_well g.R.Source.remaining g.R.Source.failures g.W.Sink.contents g.W.Sink.failures all old reader writer items kept after sent way in
-    let text = subst (λ its. PrintGives g.O.Sink.contents g.O.Sink.failures (text_of form its) c.args.out.now c.print-printed.result c.print-printed.new.out)
+    let text = subst (λ its. PrintGives g.O.Sink.contents g.O.Sink.failures (shown c.args.is_terminal (text_of form its)) c.args.out.now c.print-printed.result c.print-printed.new.out)
     c.as_slice.ensures.value c.print-printed.ensures in
-    let ran = run_printed g.R.Source.remaining g.R.Source.failures g.W.Sink.contents g.W.Sink.failures g.O.Sink.contents g.O.Sink.failures all form old kept
+    let ran = run_printed g.R.Source.remaining g.R.Source.failures g.W.Sink.contents g.W.Sink.failures g.O.Sink.contents g.O.Sink.failures all form c.args.is_terminal old kept
     reader after writer sent c.args.out.now c.print-printed.new.out items c.print-printed.result given text in
-    subst (λ rs. RunGives g.R.Source.remaining g.R.Source.failures g.W.Sink.contents g.W.Sink.failures g.O.Sink.contents g.O.Sink.failures rs form old
+    subst (λ rs. RunGives g.R.Source.remaining g.R.Source.failures g.W.Sink.contents g.W.Sink.failures g.O.Sink.contents g.O.Sink.failures rs form c.args.is_terminal old
     reader writer c.args.out.now c.print-printed.result kept after sent c.print-printed.new.out) c.as_slice-request-items.ensures.value ran
