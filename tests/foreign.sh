@@ -15,6 +15,7 @@ link() { cc -O2 -Wall -Wextra -Werror -o "$folder/$1" "${@:2}" arm64/foreign.c; 
 link foreign tests/foreign.c
 "$folder/foreign" word ''
 
+[[ -f crates/upsd/out/upsd.o ]] || { echo "foreign: FAILED: crates/upsd/out/upsd.o isn't there: make"; exit 1; }
 for program in upsd upsc; do link "$program" "crates/$program/out/$program.o"; done
 "$folder/upsd" replay crates/upsd/data/first.txt | cmp - crates/upsd/stdout
 crates/demodriver/out/demodriver "$folder/su" >"$folder/driver" 2>&1 &
