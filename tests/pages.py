@@ -40,6 +40,8 @@ MESSAGES = [
     *((path, r'"(.*)"\)?;\n.*, None, &line\);', r"\1") for path in ("crates/nutjournal/src/log_buffer.rt", JOURNAL)),
     (JOURNAL, r'format_args!\("([a-z].*)"\)(?:\);|;\n.*, (?:ups|name\(u\)), &line\);)', r"su: \1"),
     ("crates/nutjournal/src/tally.rt", r'^    \("(d.*)", [A-Z]+, [A-Z_]+\),', r"su: \1"),
+    (JOURNAL, r'^    \("([a-z].*)", (?:true|false)\),', r"\1: N"),
+    ("crates/upsd/src/reading.rt", r'"upsd: \{path\}:\{number\}: (.*)"\)', r"PATH:LINE: \1"),
     (JOURNAL, r'format_args!\("(lines .*): \{count\}, the last one"\);', r"su: \1: N, the last one: REASON"),
     (JOURNAL, r'format_args!\("\{who\} (logged out)"\)', r"su: mon@192.0.2.1 \1"),
     (JOURNAL, r'Verb::.* => \(".*", "(.*?)(?<=ordered) [A-Z ]+", .*\),', r"su: mon@192.0.2.1 \1 COMMAND"),

@@ -9,7 +9,7 @@ import subprocess
 import time
 
 from replaying import HERE, Bench, built, difference, sent
-from serving import TWO, comes, served
+from serving import READY, TWO, comes, served
 
 BENCH = Bench("record", *built("upsd"))
 FOLDER = BENCH.folder.name
@@ -88,7 +88,7 @@ def a_record_replays_to_the_same_bytes():
 
 
 def serves_on(name, most, *words, **more):
-    """After the record has ended the server answers as ever, and the journal has said so once. The record replays, except for its last line."""
+    """After the record has ended the server answers as ever, and the journal has said so once. The record replays, except for a last line that was cut."""
     with recorded(name, TWO, *words, **more) as (server, driver, good):
         for number in range(most // 500):
             if number % 100 == 0:
@@ -97,8 +97,10 @@ def serves_on(name, most, *words, **more):
         assert comes(lambda: server.journal().count("upsd: the record has ended") == 1), server.journal()
     record = content(name)
     assert abs(len(record) - most) <= 4096, len(record)
-    whole = BENCH.file("whole", record[:record.rindex(b"\n") + 1])
-    assert BENCH.ends("replay", *FILES, whole)[0] == 0
+    BENCH.file("whole", record[:record.rindex(b"\n") + 1])
+    printed = BENCH.ends("replay", *FILES, "whole")[1]
+    fault = f"upsd: {name}:{record.count(10) + 1}: the last line was cut, and is left out\n" if record[-1:] != b"\n" else ""
+    assert BENCH.ends("replay", *FILES, name) == (0, printed, fault.encode()), name
     return f"{len(record)} bytes"
 
 
@@ -111,6 +113,21 @@ def a_full_disk_ends_the_record_and_not_the_server():
 
 def a_limit_ends_the_record_and_not_the_server():
     return serves_on("limited", MIB, "--record-limit", "1")
+
+
+def replaying_takes_three_times_the_record_at_most():
+    """One of 8 MiB, of clients that poll and drivers that report."""
+    turn = b"".join(b"client-hex %d %s\ntook %d 23\n" % (c, GET.hex().encode(), c) for c in (1, 2, 3)) + b"driver-hex su %s\n" % TWO.hex().encode() * 2
+    head = b"up su\ndriver-hex su %s\n" % (TWO + READY).hex().encode() + b"open 192.0.2.1\n" * 3
+    record = BENCH.file("long", head + turn * (8 * MIB // len(turn)))
+    with subprocess.Popen([BENCH.program, "replay", record], stdout=subprocess.PIPE) as child:
+        printed = child.stdout.read()
+        _, status, used = os.wait4(child.pid, 0)
+        child.returncode = status
+    size, most = os.path.getsize(record), used.ru_maxrss * 1024
+    assert status == 0 and printed.count(b"OL") == 3 * (8 * MIB // len(turn)), status
+    assert most <= 3 * size, f"{most / size:.2f} times"
+    return f"{most / size:.2f} times"
 
 
 def a_head_that_is_cut_is_not_continued():

@@ -190,6 +190,7 @@ def a_server_without_memory_goes_on():
         assert other.up_to_end() == b""
         driver.send(b"SETINFO a 1\nSETINFO b 2\n")
         assert driver.line() == b"" and CONTROL.refused >= 3, CONTROL.refused
+        assert comes(lambda: "\nupsd: drivers cut off, out of memory or by an endless line: " in server.journal()), server.journal()
         CONTROL.refuse(0, 0)
         got = client.ask(b"NETVER\n", 5)
         assert got == b'BEGIN LIST UPS\nUPS su "Rack 1"\nEND LIST UPS\nNetwork UPS Tools upsd, profile 1\n1.3\n', got

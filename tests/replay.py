@@ -56,7 +56,7 @@ def bad_lines():
         assert row[0] == row[-1] == "|", "a row stands between bars"
         line = row[1:-1].encode().decode("unicode_escape").encode("latin-1")
         for front, number in ((b"", 1), (b"up su\n# fine\n", 3)):
-            BENCH.faults(front + line, f"upsd: {BENCH.folder.name}/script:{number}: bad event\n".encode())
+            BENCH.faults(front + line + b"\n", f"upsd: {BENCH.folder.name}/script:{number}: bad event\n".encode())
     BENCH.faults(b"up su\ndown su\n" * 999 + b"# fine\nup\nworse\n", f"upsd: {BENCH.folder.name}/script:2000: bad event\n".encode())
     return each([[row] for row in rows], is_bad)
 

@@ -2,6 +2,7 @@
 """What a real network asks of the server: the built upsd on real sockets, at ports that the system gives. Words: the names of the
 cases, if not all are to run. A function without a parameter is a case."""
 import contextlib
+import fcntl
 import functools
 import itertools
 import multiprocessing
@@ -11,6 +12,7 @@ import select
 import socket
 import subprocess
 import sys
+import termios
 import threading
 import time
 
@@ -360,7 +362,9 @@ def a_lost_driver_comes_back():
             driver.lose()
             driver.accept(TWO)
             assert comes(lambda: good.ask(GET) == STATUS)
-        logs(server, *["driver lost", *NEWS] * 2)
+        cut_off = "upsd: drivers cut off, out of memory or by an endless line: 1\n"
+        wanted = COME + f"upsd: su: driver lost\n{COME}" * 2
+        assert comes(lambda: cut_off in server.journal() and server.journal().replace(cut_off, "", 1) == wanted), server.journal()
 
 
 def drivers_that_are_not_there_are_tried_again():
@@ -511,6 +515,39 @@ def the_sixty_fifth_client_is_closed():
         assert sent_away(server) == 3, server.journal()
         others.pop().close()
         assert comes(lambda: is_answered(server.client(), GET, STATUS))
+
+
+def a_newcomer_without_a_descriptor_is_logged_once_a_minute():
+    """And is served once there is one."""
+    with begun(file("one.conf", "[su]\n"), files=8) as server:
+        clients = [server.client() for _ in range(8)]
+        line = "upsd: clients not accepted, without a descriptor or memory: "
+        assert comes(lambda: line in server.journal()), server.journal()
+        time.sleep(3.2)
+        assert server.journal().count(line) <= 2, server.journal()  # a minute may have begun
+        for client in clients[:-1]:
+            client.close()
+        assert clients[-1].ask(b"NETVER\n") == b"1.3\n"
+
+
+def a_terminal_that_the_server_may_not_open_is_named():
+    """One that is open for its holder alone, or another user's."""
+    reading, terminal = os.openpty()
+    fcntl.ioctl(terminal, termios.TIOCEXCL)
+    words = [UPSD, "serve", "--ups", file("one.conf", "[su]\n"), "--users", file("one.users", ""), "--listen", "127.0.0.1:0"]
+    for readable in FOLDER, words[3], words[5]:
+        os.chmod(readable, 0o755)
+    user = {} if os.geteuid() else {"user": 65534}
+    with subprocess.Popen(words, stdout=subprocess.PIPE, stderr=terminal, **user) as server:
+        try:
+            lines = b""
+            while b"may stop the server" not in lines:
+                assert select.select([reading], [], [], 10)[0], lines
+                lines += os.read(reading, 4096)
+        finally:
+            server.kill()
+    for end in reading, terminal:
+        os.close(end)
 
 
 def sent_away(server):

@@ -6,6 +6,8 @@ use Rattle.std.specs.Option.{option_map_or}
 use Rattle.std.specs.Str.{bytes_eq}
 use Rattle.nutjournal.specs.declared.tally.Kind.{Kind}
 use Rattle.nutjournal.specs.declared.tally.Tally.{Tally}
+use Rattle.nutjournal.specs.declared.tallies.Of.{Of}
+use Rattle.nutjournal.specs.declared.tallies.Of.TheVariants.{Client, Ups}
 use Rattle.nutjournal.specs.declared.tallies.Tallies.{Tallies}
 use Rattle.nutjournal.specs.declared.tallies.TheConstants.{ADDRESS_COUNT}
 use Rattle.nutjournal.specs.Tally.{after_line, nothing}
@@ -20,44 +22,30 @@ is address that = option_map_or (λ x. bytes_eq x address) that false
 abbrev pub place_of : List ℕ → List (Option (List ℕ)) → ℕ
 place_of address all = position_or_len (is address) all
 
--- That of the UPS of a place.
-abbrev pub tally_of_ups : ℕ → Tallies → Tally
-tally_of_ups place all = unwrap_or (slice_get all.upses place) fresh
-
-abbrev pub after_line_of_ups : ℕ → Kind → Tallies → Tallies
-after_line_of_ups place kind all =
-    record all {
-      upses = slice_set all.upses place (after_line (tally_of_ups place all) kind);
-    }
-
--- That of an address: its own, or that of all others where there is no room for it.
-abbrev pub tally_of_client : List ℕ → Tallies → Tally
-tally_of_client address all =
-    unwrap_or (slice_get all.clients (place_of address all.addresses.items)) fresh
+-- That of the UPS of a place, or of an address: its own, or that of all others where there is no
+-- room for it.
+abbrev pub tally_of : Of → Tallies → Tally
+tally_of (Ups place) all = unwrap_or (slice_get all.upses place) fresh
+tally_of (Client address) all =
+    unwrap_or (slice_get all.clients (place_of address.now all.addresses.items)) fresh
 
 abbrev pub with_address : List ℕ → List (Option (List ℕ)) → List (Option (List ℕ))
 with_address address all =
     if place_of address all == length all && nat_lt (length all) ADDRESS_COUNT
     then all ++ Some address ∷ [] else all
 
-abbrev pub after_line_of_client : List ℕ → Kind → Tallies → Tallies
-after_line_of_client address kind all =
+-- After a line it has one more.
+abbrev pub after_line_of : Of → Kind → Tallies → Tallies
+after_line_of (Ups place) kind all =
+    record all { upses = slice_set all.upses place (after_line (tally_of (Ups place) all) kind) }
+after_line_of (Client address) kind all =
     record all {
-      addresses = record { items = with_address address all.addresses.items };
-      clients = slice_set all.clients (place_of address all.addresses.items)
-          (after_line (tally_of_client address all) kind);
+      addresses = record { items = with_address address.now all.addresses.items };
+      clients = slice_set all.clients (place_of address.now all.addresses.items)
+          (after_line (tally_of (Client address) all) kind);
     }
-
--- One line: of the UPS of a place, or of a client of an address.
-pub data Line : Type 0 where
-  OfUps : (place : ℕ) → (kind : Kind) → Line
-  OfClient : (address : List ℕ) → (kind : Kind) → Line
-
-abbrev pub after_one : Tallies → Line → Tallies
-after_one all (OfUps place kind) = after_line_of_ups place kind all
-after_one all (OfClient address kind) = after_line_of_client address kind all
 
 -- These tallies come of those by some lines alone, each of which is logged or counted.
 pub record LeadsTo (old new : Tallies) : Type 0 where
-  pub lines : List Line
-  pub leads : new ≡ fold (λ all line. after_one all line) old lines
+  pub lines : List (Of × Kind)
+  pub leads : new ≡ fold (λ all line. after_line_of line.0 line.1 all) old lines

@@ -3,11 +3,12 @@ ghost use Rattle.std.specs.Prelude.{◌≡◌, Some};
 ghost use Rattle.nutjournal.specs.Tallies.{LeadsTo};
 
 use crate::log_buffer::{INFO, LogBuffer, WARNING};
-use crate::tallies::Tallies;
+use crate::tallies::{Of, Tallies};
 use crate::tally::Kind;
 use nutcore::{DataState, Deed, DriverFault, MaxAge, Note, Server, UpsId, Verb, Who};
+use nutwords::UpsName;
 use std::alloc::AllocError;
-use std::fmt::{self, Formatter, Write};
+use std::fmt::{self, Display, Formatter, Write};
 use std::io::Error;
 use std::mem;
 
@@ -33,6 +34,13 @@ struct Driver {
     awaited: Option<u64>,
 }
 
+/// What is counted beside the server's notes, and whether a line of it comes once a minute at most.
+const COUNTED: [(&str, bool); 3] = [
+    ("clients sent away for want of room", false),
+    ("drivers cut off, out of memory or by an endless line", true),
+    ("clients not accepted, without a descriptor or memory", true),
+];
+
 /// The lines on their way out, and what was logged of the things that aren't logged each time.
 #[derive(Drop)]
 pub struct Journal {
@@ -43,8 +51,9 @@ pub struct Journal {
     drivers: Drivers,
     /// The greatest age, in seconds.
     max_age: u64,
-    /// How many clients had been sent away then.
-    sent_away: u64,
+    /// The counts that were logged, and the minutes in which they were.
+    counts: [u64; 3],
+    minutes: [Option<u64>; 3],
     is_record_cut: bool,
 }
 
@@ -60,13 +69,17 @@ impl Journal {
         has_priorities: bool,
         max_age: MaxAge,
     ) -> Result<Journal, AllocError> {
+        let mut log = LogBuffer::new(rt, has_priorities)?;
+        let line = "standard error may stop the server: a terminal that its user may not open";
+        log.add_if(log.may_wait(rt), WARNING, None, &line);
         Ok(Journal {
-            log: LogBuffer::new(rt, has_priorities)?,
+            log,
             moment: None,
             tallies: Tallies::new(),
             drivers: [Driver::default(); 256],
             max_age: u64::from(max_age.seconds()),
-            sent_away: 0,
+            counts: [0; 3],
+            minutes: [None; 3],
             is_record_cut: false,
         })
     }
@@ -75,15 +88,16 @@ impl Journal {
     /// logs what was counted, and all else. Where neither is so it does nothing.
     ///
     /// `error_of` gives the number of the system's error by which the driver of a UPS couldn't be
-    /// connected to. `sent_away` is how many clients were sent away for want of room since the
-    /// start, and `is_record_cut` whether the record of events has ended early.
+    /// connected to. `counts` are, since the start, the clients that were sent away for want of
+    /// room, the drivers that were cut off, and how often no client could be accepted.
+    /// `is_record_cut` is whether the record of events has ended early.
     #[tactic(auto, using(crate::proofs::Leads::same, crate::proofs::Leads::joined))]
     pub fn write<E: Fn(UpsId) -> Option<i32>>(
         &mut self,
         rt: &HostRuntime,
         server: &Server,
         error_of: E,
-        sent_away: u64,
+        counts: [u64; 3],
         is_record_cut: bool,
     )
         requires { E.IsAlwaysCallable error_of }
@@ -97,7 +111,8 @@ impl Journal {
         if was != moment {
             let is_minute = was.map(|second| second / MINUTE)
                 != moment.map(|second| second / MINUTE);
-            self.log_news(server, is_minute, error_of, sent_away, is_record_cut);
+            self.log_drivers(server, is_minute, error_of);
+            self.log_counts(server.current_moment() / MINUTE, counts, is_record_cut);
         } else if server.notes().is_empty() {
             return;
         }
@@ -107,16 +122,14 @@ impl Journal {
         self.log.flush(rt);
     }
 
-    /// Logs what is new in this second of the drivers, of the clients and of the record, and what
-    /// was counted, where a minute begins of drivers that were lost too often too. A driver that
-    /// hasn't reported everything within the greatest age is logged as stale.
-    fn log_news<E: Fn(UpsId) -> Option<i32>>(
+    /// Logs what is new in this second of the drivers, and what was counted of them, where a minute
+    /// begins also of those that were lost too often. A driver that hasn't reported everything
+    /// within the greatest age is logged as stale.
+    fn log_drivers<E: Fn(UpsId) -> Option<i32>>(
         &mut self,
         server: &Server,
         is_minute: bool,
         error_of: E,
-        sent_away: u64,
-        is_record_cut: bool,
     )
         requires { E.IsAlwaysCallable error_of }
         ensures moment { self.new.moment ≡ self.old.moment }
@@ -148,6 +161,14 @@ impl Journal {
             let late = driver.awaited.take_if(|since| *since < limit);
             log.add_if(late.is_some(), WARNING, ups, &"data stale");
         }
+    }
+
+    /// Logs what was counted of the clients in the last second, what is new in these counts, and
+    /// the end of the record.
+    fn log_counts(&mut self, minute: u64, counts: [u64; 3], is_record_cut: bool)
+        ensures moment { self.new.moment ≡ self.old.moment }
+    {
+        let (log, tallies) = (&mut self.log, &mut self.tallies);
         for place in 0..=tallies.addresses.len() {
             let more = tallies.clients[place].next_second(true);
             let address = tallies.address(place).escape_ascii();
@@ -157,12 +178,27 @@ impl Journal {
             }
         }
         tallies.addresses.clear();
-        let count = sent_away.saturating_sub(mem::replace(&mut self.sent_away, sent_away));
-        let line = format_args!("clients sent away for want of room: {count}");
-        log.add_if(count > 0, WARNING, None, &line);
+        for place in 0..COUNTED.len() {
+            let (what, is_held) = COUNTED[place];
+            let count = counts[place].saturating_sub(self.counts[place]);
+            if count > 0 && !(is_held && self.minutes[place] == Some(minute)) {
+                (self.counts[place], self.minutes[place]) = (counts[place], Some(minute));
+                log.add(WARNING, None, &format_args!("{what}: {count}"));
+            }
+        }
         let due = mem::replace(&mut self.is_record_cut, is_record_cut) != is_record_cut;
         let line = "the record has ended, at its limit or by a failed write";
         log.add_if(due, WARNING, None, &line);
+    }
+
+    /// Logs a line of this kind, which names the UPS if there is one, or counts it.
+    #[tactic(auto, using(crate::proofs::Leads::of_line))]
+    fn log<D: Display>(&mut self, of: Of<'_>, kind: Kind, ups: Option<&UpsName>, line: &D)
+        ensures moment { self.new.moment ≡ self.old.moment }
+        ensures tallies { LeadsTo self.old.tallies self.new.tallies }
+    {
+        let due = self.tallies.takes(of, kind);
+        self.log.add_if(due, kind.row().1, ups, line);
     }
 
     /// Logs a note of the server, or counts it.
@@ -179,27 +215,23 @@ impl Journal {
                 let is_awaited = *state == DataState::Awaited;
                 driver.awaited = is_awaited.then_some(server.current_moment());
                 let kind = DATA[*state as usize];
-                let due = self.tallies.takes_of_ups(u.place, kind);
-                let (text, priority, _) = kind.row();
-                self.log.add_if(due, priority, name(u), &text);
+                self.log(Of::Ups(u.place), kind, name(u), &kind.row().0);
             }
             Note::StatusChanged(u) => {
                 let status = server.status(*u).unwrap_or(b"");
                 let kind = kind_of_status(status);
-                let due = self.tallies.takes_of_ups(u.place, kind);
                 let status = status.escape_ascii();
                 let line = format_args!("status {status}");
-                self.log.add_if(due, kind.row().1, name(u), &line);
+                self.log(Of::Ups(u.place), kind, name(u), &line);
             }
             Note::LinesRefused(u, count, fault) => {
                 let driver = &mut self.drivers[u.place as usize];
                 driver.refused = (driver.refused.0.saturating_add(*count), *fault);
             }
             Note::LoggedOut(u, who) => {
-                let due = self.tallies.takes_of_client(&who.address, Kind::LoggedOut);
-                let who = Shown(who);
+                let (of, who) = (Of::Client(&who.address), Shown(who));
                 let line = format_args!("{who} logged out");
-                self.log.add_if(due, INFO, name(u), &line);
+                self.log(of, Kind::LoggedOut, name(u), &line);
             }
             Note::Did(deed) => self.log_deed(deed),
         }
@@ -223,23 +255,19 @@ impl Journal {
             (_, Verb::Login) => Kind::RefusedLogin,
             _ => Kind::RefusedOrder,
         };
-        let due = self.tallies.takes_of_client(&deed.who.address, kind);
-        let (ups, who, priority) = (deed.ups.as_ref(), Shown(&deed.who), kind.row().1);
-        let name = deed
-            .name
-            .as_ref()
-            .map_or(b"".as_slice(), |name| name.as_bytes());
+        let (of, ups) = (Of::Client(&deed.who.address), deed.ups.as_ref());
+        let who = Shown(&deed.who);
+        let name = deed.name.as_ref();
+        let name = name.map_or(b"".as_slice(), |name| name.as_bytes());
         let (space, name) = (if name.is_empty() { "" } else { " " }, name.escape_ascii());
-        let line = format_args!("{who} {granted}{space}{name}");
-        self.log
-            .add_if(due && deed.refusal.is_none(), priority, ups, &line);
-        let word = deed.refusal.as_ref();
-        let word = word
-            .map_or(b"".as_slice(), |word| word.as_bytes())
-            .escape_ascii();
-        let line = format_args!("{who} was refused {command}{space}{name}: {word}");
-        self.log
-            .add_if(due && deed.refusal.is_some(), priority, ups, &line);
+        match &deed.refusal {
+            None => self.log(of, kind, ups, &format_args!("{who} {granted}{space}{name}")),
+            Some(word) => {
+                let word = word.as_bytes().escape_ascii();
+                let line = format_args!("{who} was refused {command}{space}{name}: {word}");
+                self.log(of, kind, ups, &line);
+            }
+        }
     }
 }
 

@@ -62,6 +62,11 @@ impl LogBuffer {
         })
     }
 
+    /// Whether standard error is a terminal to which a write may wait.
+    pub fn may_wait(&self, rt: &HostRuntime) -> bool {
+        self.terminal.is_none() && rt.stderr().is_terminal()
+    }
+
     /// Adds a line of this priority, about the UPS if there is one. A line that has no room is
     /// dropped and counted. So are those after it, until the count is logged. Takes no memory.
     pub fn add<D: Display>(&mut self, priority: u8, ups: Option<&UpsName>, line: &D) {

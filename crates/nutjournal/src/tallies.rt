@@ -1,7 +1,7 @@
 //! The tallies of all UPSs and addresses.
 ghost use Rattle.std.specs.Prelude.{◌≡◌, ◌≤◌};
 ghost use Rattle.nutjournal.specs.Tally.{is_logged};
-ghost use Rattle.nutjournal.specs.Tallies.{after_line_of_client, after_line_of_ups, is, place_of, tally_of_client, tally_of_ups, with_address};
+ghost use Rattle.nutjournal.specs.Tallies.{after_line_of, is, place_of, tally_of, with_address};
 
 use crate::tally::{Kind, Tally};
 use arrayvec::ArrayVec;
@@ -9,6 +9,13 @@ use nutwords::Address;
 
 /// The most addresses that have a tally of their own. All others have one together, the last one.
 pub const ADDRESS_COUNT: usize = 64;
+
+/// What a line is of: the UPS of a place, or a client of an address.
+#[derive(Clone, Copy)]
+pub enum Of<'a> {
+    Ups(u8),
+    Client(&'a Address),
+}
 
 /// The lines of this second.
 #[derive(Drop)]
@@ -30,21 +37,18 @@ impl Tallies {
         }
     }
 
-    /// Whether a line of this kind is logged of the UPS of this place. If not, it is counted.
-    pub fn takes_of_ups(&mut self, place: u8, kind: Kind) -> bool
-        ensures logged { result ≡ is_logged (tally_of_ups place self.old) kind }
-        ensures after { self.new ≡ after_line_of_ups place kind self.old }
+    /// Whether a line of this kind is logged. If not, it is counted.
+    pub fn takes(&mut self, of: Of<'_>, kind: Kind) -> bool
+        ensures logged { result ≡ is_logged (tally_of of.entry self.old) kind }
+        ensures after { self.new ≡ after_line_of of.entry kind self.old }
     {
-        self.upses[place as usize].takes(kind)
-    }
-
-    /// Whether a line of this kind is logged of a client of this address. If not, it is counted.
-    pub fn takes_of_client(&mut self, address: &Address, kind: Kind) -> bool
-        ensures logged { result ≡ is_logged (tally_of_client address.now self.old) kind }
-        ensures after { self.new ≡ after_line_of_client address.now kind self.old }
-    {
-        let place = self.place_for(address);
-        self.clients[place].takes(kind)
+        match of {
+            Of::Ups(place) => self.upses[place as usize].takes(kind),
+            Of::Client(address) => {
+                let place = self.place_for(address);
+                self.clients[place].takes(kind)
+            }
+        }
     }
 
     /// The place of an address, which is added where it has none and there is room.

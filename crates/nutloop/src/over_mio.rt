@@ -58,6 +58,7 @@ pub struct MioSockets<'a, R, F> {
     here: usize,
     failures: u64,
     refusals: u64,
+    cut_off: u64,
     /// What NUT's server leaves out of what it reads is left out here too.
     nut_bytes: bool,
 }
@@ -103,6 +104,7 @@ impl<'a, R: Net + Clock, F: Read + Drop> MioSockets<'a, R, F> {
             here: 0,
             failures: 0,
             refusals: 0,
+            cut_off: 0,
             nut_bytes,
         })
     }
@@ -124,11 +126,12 @@ impl<'a, R: Net + Clock, F: Read + Drop> MioSockets<'a, R, F> {
         self.drivers.get(u.place as usize)?.error
     }
 
-    /// How many newcomers were sent away. The count stops at its greatest number.
-    pub fn refusals(&self) -> u64
-        ensures { result ≡ refused self.now }
+    /// How many newcomers were sent away, how many drivers were cut off before their sockets had
+    /// ended, and how often no newcomer could be accepted. A count stops at its greatest number.
+    pub fn counts(&self) -> [u64; 3]
+        ensures { result ≡ refused self.now ∷ self.now.cut_off ∷ self.now.door.failures ∷ [] }
     {
-        self.refusals
+        [self.refusals, self.cut_off, self.door.failures]
     }
 
     /// The next turn without a look: what this pass has left, or the next one.
@@ -351,6 +354,9 @@ impl<'a, R: Net + Clock, F: Read + Drop> Sockets for MioSockets<'a, R, F> {
             }
             Peer::Driver(u) => {
                 if let Some(driver) = self.drivers.get_mut(u.place as usize) {
+                    if matches!(&driver.socket, Some(socket) if !socket.ended) {
+                        self.cut_off = self.cut_off.saturating_add(1);
+                    }
                     driver.socket = None;
                 }
             }

@@ -22,7 +22,7 @@ use Rattle.nutcore.specs.DriverOrders.{all_taken as driver_taken, taken_in_event
 use Rattle.nutcore.specs.History.{taken, taken_in_event, owed}
 use Rattle.nutreplay.specs.declared.script.action.Action.{Action}
 use Rattle.nutreplay.specs.declared.script.action.Action.TheVariants as asked
-use Rattle.nutreplay.specs.declared.script.ScriptLine.{ScriptLine}
+use Rattle.nutreplay.specs.Script.{ScriptLine}
 use Rattle.nutreplay.specs.declared.transcript.sent.Taken.{Taken}
 use Rattle.nutreplay.specs.Script.{took, actions_of}
 use Rattle.nutreplay.specs.Transcript.{TranscriptState, new_transcript, Happens, TakesAgain, all_taken, again, IsDone, AreDone, count_offered, sent_to, taken_by, opened_by}

@@ -37,7 +37,7 @@ use Rattle.nutreplay.specs.declared.script.action.Action.{Action}
 use Rattle.nutreplay.specs.declared.script.action.Action.TheVariants.{Happens, TookAll}
 use Rattle.nutreplay.specs.declared.script.action.Form.TheVariants.{Part, Hex}
 use Rattle.nutreplay.specs.declared.script.action.TheConstants.{UNLISTED}
-use Rattle.nutreplay.specs.declared.script.ScriptLine.{ScriptLine}
+use Rattle.nutreplay.specs.Script.{ScriptLine}
 use Rattle.nutreplay.specs.Script.{split_at_space, number, ups_named, ups, with_rest, driver_and_rest, client_and_rest, took, taking, sent, sending, action_of, read_parts, read_line, actions_from, numbered, bad_line_from, is_bad, actions_of, first_bad_line}
 use Rattle.nutreplay.specs.Written.{name_at, verb_of_bytes, line_of, Has, IsEventOf, WhatIsWrittenIsReadBack}
 

@@ -15,7 +15,7 @@ use Rattle.nutcore.specs.History.{taken, answers, owed, is_closed}
 use Rattle.nutcore.specs.DriverOrders.{all_taken as driver_taken}
 use Rattle.nutreplay.specs.declared.script.action.Action.{Action}
 use Rattle.nutreplay.specs.declared.script.action.Action.TheVariants as asked
-use Rattle.nutreplay.specs.declared.script.ScriptLine.{ScriptLine}
+use Rattle.nutreplay.specs.Script.{ScriptLine}
 use Rattle.nutreplay.specs.Script.{took, actions_of}
 use Rattle.nutreplay.specs.Transcript.{TranscriptState, new_transcript, Happens}
 use Rattle.nutreplay.specs.Transcript.{TakesAgain, all_taken, again, IsDone, AreDone, IsOutput}

@@ -23,7 +23,11 @@ use Rattle.nutreplay.specs.declared.script.action.Action.{Action}
 use Rattle.nutreplay.specs.declared.script.action.Action.TheVariants.{Happens, TookAll}
 use Rattle.nutreplay.specs.declared.script.action.Form.{Form}
 use Rattle.nutreplay.specs.declared.script.action.Form.TheVariants.{Line, Part, Hex}
-use Rattle.nutreplay.specs.declared.script.ScriptLine.{ScriptLine}
+
+-- An action, with the number of its line, from 1.
+pub record ScriptLine : Type 0 where
+  pub number : ℕ
+  pub action : Action
 
 -- The bytes before the first space, and those after it.
 abbrev pub split_at_space : List ℕ → Option (List ℕ × List ℕ)

@@ -20,7 +20,7 @@ use Rattle.nutcore.specs.DriverOrders.{taken_in_event as driver_taken_in_event}
 use Rattle.nutcore.specs.Calls.{owed_to}
 use Rattle.nutreplay.specs.declared.script.action.Action.{Action}
 use Rattle.nutreplay.specs.declared.script.action.Action.TheVariants as asked
-use Rattle.nutreplay.specs.declared.script.ScriptLine.{ScriptLine}
+use Rattle.nutreplay.specs.Script.{ScriptLine}
 use Rattle.nutreplay.specs.declared.transcript.sent.Taken.{Taken}
 use Rattle.nutreplay.specs.Script.{took, actions_of}
 

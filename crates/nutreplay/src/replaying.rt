@@ -3,10 +3,9 @@ ghost use Rattle.std.specs.Prelude.{◌≡◌, ◌⊎◌, ℕ, List, OnOk, IfOk,
 ghost use Rattle.nutio.specs.Ends.{Written, WriteFailed};
 ghost use Rattle.nutreplay.specs.Script.{first_bad_line};
 ghost use Rattle.nutreplay.specs.Transcript.{IsOutput};
-ghost use Rattle.nutreplay.specs.ReplayFault.{number_of_replay_fault};
+ghost use Rattle.nutreplay.specs.ReplayFault.{FailsAt, number_of_replay_fault};
 ghost use Rattle.nutreplay.specs.declared.replaying.ReplayFault.TheVariants.{Memory};
 
-use crate::script::read_script;
 use crate::transcript::Transcript;
 use nutcore::Server;
 use nutio::{Sink, send};
@@ -56,8 +55,7 @@ impl From<AllocError> for ReplayFault {
     }
 }
 
-/// Replays a script over the server, and writes the transcript. The whole script is read before
-/// its first event.
+/// Replays a script over the server, and writes the transcript.
 ///
 /// # Errors
 ///
@@ -92,11 +90,7 @@ pub fn replay<W: Sink>(
 fn transcript(alloc: Global, server: &mut Server, script: &[u8]) -> Result<Vec<u8>, ReplayFault>
     ensures ok { IfOk result (λ text. (first_bad_line server.old.state.list script.now ≡ None)
         × IsOutput server.old.state script.now text.items) }
-    ensures err { IfErr result (λ fault. (fault ≡ ReplayFault.Memory) ⊎ ((n : ℕ)
-        × (fault ≡ ReplayFault.BadEvent n)
-        × (first_bad_line server.old.state.list script.now ≡ Some n))) }
+    ensures err { IfErr result (FailsAt (first_bad_line server.old.state.list script.now)) }
 {
-    let lines = read_script(alloc, server.ups(), script)?;
-    let mut transcript = Transcript::new(alloc, server);
-    transcript.replay(lines).map_err(ReplayFault::from)
+    Transcript::new(alloc, server).replay(script)
 }

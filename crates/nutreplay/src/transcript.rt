@@ -1,18 +1,21 @@
 //! The server of a replayed script, and the transcript of its events: what is noted of each, and
 //! what was sent.
-ghost use Rattle.std.specs.Prelude.{◌≡◌, ◌++◌, ◌-◌, ◌<◌, ◌^◌, length, IfOk, OnOk};
+ghost use Rattle.std.specs.Prelude.{◌≡◌, ◌++◌, ◌-◌, ◌<◌, ◌^◌, length, IfErr, IfOk, OnOk, None};
 ghost use Rattle.nutcore.specs.Step.{offered};
 ghost use Rattle.nutcore.specs.Server.{session, ups_at};
 ghost use Rattle.nutcore.specs.History.{taken_in_event};
 ghost use Rattle.nutcore.specs.DriverOrders.{taken_in_event as driver_taken_in_event};
-ghost use Rattle.nutreplay.specs.Script.{took};
+ghost use Rattle.nutreplay.specs.ReplayFault.{FailsAt};
+ghost use Rattle.nutreplay.specs.Script.{actions_of, first_bad_line, took};
 ghost use Rattle.nutreplay.specs.Transcript.{new_transcript, note_of_refusal, held_count, held_total, note_of, opened_by, taken_by, Happens, TakesAll, IsDone, AreDone, IsTextAfter, offered_to, count_offered};
 
 mod sent;
 
 use self::sent::{Taken, write_clients, write_drivers};
-use crate::script::{Action, ScriptLine, took};
+use crate::replaying::ReplayFault;
+use crate::script::{Action, read_line, took};
 use nutcore::{Bytes, ClientId, Event, Fault, Outcome, Peer, Server, UpsId};
+use nutwords::{TextLines, is_silent};
 use std::alloc::{AllocError, Global};
 use std::marker::Model;
 use std::mem;
@@ -54,23 +57,39 @@ impl<'a> Transcript<'a> {
         }
     }
 
-    /// Does what the lines ask for. The answer is the whole text.
+    /// Does what the lines of a script ask for. The answer is the whole text.
+    ///
+    /// # Errors
+    ///
+    /// `BadEvent` with the number of the first line that is none of a script's lines, and `Memory`.
     #[tactic(auto, unfolding(crate::specs::Transcript::whole_text))]
-    pub fn replay(&mut self, lines: Vec<ScriptLine>) -> Result<Vec<u8>, AllocError>
-        ensures { IfOk result (λ text. IsTextAfter lines.items self.old text.items) }
+    pub fn replay(&mut self, script: &[u8]) -> Result<Vec<u8>, ReplayFault>
+        ensures ok { IfOk result (λ text. (first_bad_line self.old.server.list script.now ≡ None)
+            × IsTextAfter (actions_of self.old.server.list script.now) self.old text.items) }
+        ensures err { IfErr result (FailsAt (first_bad_line self.old.server.list script.now)) }
     {
-        self.run(lines)?;
+        self.run(script)?;
         write_clients(self.alloc, &self.clients, &self.taken, &mut self.text)?;
         write_drivers(self.alloc, self.server.ups(), &self.taken, &mut self.text)?;
         Ok(mem::replace(&mut self.text, Vec::new(self.alloc)))
     }
 
-    /// Does what the lines ask for, one after another.
-    fn run(&mut self, lines: Vec<ScriptLine>) -> Result<(), AllocError>
-        ensures { OnOk result (AreDone lines.items self.old self.new) }
+    /// Does what the lines of a script ask for, each before the next one is read.
+    fn run(&mut self, script: &[u8]) -> Result<(), ReplayFault>
+        ensures ok { OnOk result ((first_bad_line self.old.server.list script.now ≡ None)
+            × AreDone (actions_of self.old.server.list script.now) self.old self.new) }
+        ensures err { IfErr result (FailsAt (first_bad_line self.old.server.list script.now)) }
     {
-        for line in lines {
-            self.act(line.number, line.action)?;
+        let list = self.server.ups().share()?;
+        let mut number = 0;
+        for line in TextLines::of(script) {
+            number += 1;
+            if !is_silent(line) {
+                let Some(action) = read_line(self.alloc, &list, line)? else {
+                    return Err(ReplayFault::BadEvent(number));
+                };
+                self.act(number, action)?;
+            }
         }
         Ok(())
     }

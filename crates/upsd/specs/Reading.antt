@@ -1,5 +1,6 @@
 -- What reading files gives.
-use Rattle.std.specs.Prelude.{◌≡◌, ℕ, ⊤, List, Option, Some, Result, Err}
+use Rattle.std.specs.Prelude.{◌≡◌, ℕ, ◌+◌, ◌==◌, ⊤, List, [], ◌∷◌, Option, Some, Result, Err}
+use Rattle.std.specs.Prelude.{if◌then◌else◌, take}
 use denote.Ref.{Bor}
 use Rattle.upsd.specs.declared.ending.Ending.{Ending}
 use Rattle.upsd.specs.declared.ending.Ending.TheVariants as endings
@@ -28,3 +29,16 @@ CantBeRead gives path ending =
 abbrev pub CantBeOpened : Option (Bor (List ℕ)) → Ending → Type 0
 CantBeOpened named ending =
     (path : Bor (List ℕ)) × (named ≡ Some path) × CantBeRead anything path ending
+
+-- Where the last LF ends, so many bytes being before these and their last LF ending there.
+abbrev pub lines_end_from : ℕ → ℕ → List ℕ → ℕ
+lines_end_from end count [] = end
+lines_end_from end count (b ∷ bytes) =
+    lines_end_from (if b == 10 then count + 1 else end) (count + 1) bytes
+
+abbrev pub lines_end : List ℕ → ℕ
+lines_end bytes = lines_end_from 0 0 bytes
+
+-- The whole lines of a text: a last line without LF was cut.
+abbrev pub whole_lines : List ℕ → List ℕ
+whole_lines bytes = take (lines_end bytes) bytes

@@ -13,7 +13,7 @@ use Rattle.upsd.specs.declared.ending.Ending.{Ending}
 use Rattle.upsd.specs.declared.ending.Ending.TheVariants as endings
 use Rattle.upsd.specs.declared.files.Configuration.{Configuration}
 use Rattle.upsd.specs.declared.files.Files.{Files}
-use Rattle.upsd.specs.Reading.{Readings, CantBeRead}
+use Rattle.upsd.specs.Reading.{Readings, CantBeRead, whole_lines}
 use Rattle.upsd.specs.Configuration.{AreMeant, FirstFails, IsServerOf}
 
 -- What replaying the script over this server gave, and what the writer took.
@@ -27,14 +27,14 @@ IsReplay contents failures s script old (Err faults.Memory) new = new ≡ old
 IsReplay contents failures s script old (Err faults.Write) new = (first_bad_line s.list script ≡ None)
     × ((output : List ℕ) × IsOutput s script output × WriteFailed contents failures old output new)
 
--- The script was read, and replayed over this server. `gives` is what reading the file of a path
--- gives.
+-- The script was read, and its whole lines were replayed over this server. `gives` is what reading
+-- the file of a path gives.
 pub record ReplaysOver {W : Type 0} (contents : W → Option (List ℕ)) (failures : W → ℕ)
     (gives : Readings) (s : ServerState) (script : Bor (List ℕ)) (old : W)
     (replayed : Result (Unit {0}) ReplayFault) (new : W) : Type 0 where
   pub bytes : List ℕ
   pub read : gives script.now (Ok bytes)
-  pub gave : IsReplay contents failures s bytes old replayed new
+  pub gave : IsReplay contents failures s (whole_lines bytes) old replayed new
 
 -- It was replayed over a new server of what the files mean.
 pub record Replays {W : Type 0} (contents : W → Option (List ℕ)) (failures : W → ℕ)

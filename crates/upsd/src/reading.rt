@@ -1,8 +1,8 @@
 //! Reading files by their paths.
-ghost use Rattle.std.specs.Prelude.{◌≡◌, ◌≢◌, ℕ, List, Result, Ok, Err, IfErr, MatchResult};
+ghost use Rattle.std.specs.Prelude.{◌≡◌, ◌≢◌, ◌≤◌, length, ℕ, List, Result, Ok, Err, IfErr, MatchResult};
 ghost use Rattle.std.specs.IoError.{error_kind, raw_os_error};
 ghost use Rattle.upsd.specs.declared.reading.ReadFault.{ReadFault};
-ghost use Rattle.upsd.specs.Reading.{CantBeRead, anything, ending_of_unread};
+ghost use Rattle.upsd.specs.Reading.{CantBeRead, anything, ending_of_unread, lines_end, whole_lines};
 
 use crate::ending::Ending;
 use std::fs::{self, File, OpenOptions};
@@ -31,6 +31,9 @@ pub trait FileReader {
         ensures { MatchResult result
             (λ bytes. gives self.now path.now (Ok bytes.items))
             (λ fault. gives self.now path.now (Err fault)) };
+
+    /// Reports that the last line of the file, which has this number, was cut.
+    fn report_cut(&self, path: &str, number: usize);
 }
 
 /// The files of the system. No clause can say what they hold.
@@ -41,6 +44,10 @@ impl FileReader for HostRuntime {
 
     fn read_file(&self, path: &str) -> Result<Vec<u8>, ReadFault> {
         fs::read(self, path).map_err(|error| fault_of(&error))
+    }
+
+    fn report_cut(&self, path: &str, number: usize) {
+        let _ = eprintln!(self; "upsd: {path}:{number}: the last line was cut, and is left out");
     }
 }
 
@@ -64,6 +71,38 @@ pub fn read<'a, R: FileReader>(reader: &R, path: &'a str) -> Result<Vec<u8>, End
 {
     let read = reader.read_file(path);
     read.map_err(|fault| ending_of_unread(path, fault))
+}
+
+/// The whole lines of a script. A last line without LF was cut, as by a full disk or the end of the
+/// server that wrote it: it is reported, and left out.
+pub fn read_script<'a, R: FileReader>(reader: &R, path: &'a str) -> Result<Vec<u8>, Ending<'a>>
+    ensures { MatchResult result
+        (λ lines. (bytes : List ℕ) × R.gives reader.now path.entry.now (Ok bytes)
+        × (lines.items ≡ whole_lines bytes))
+        (CantBeRead (R.gives reader.now) path.entry) }
+{
+    let mut bytes = read(reader, path)?;
+    let end = lines_end(&bytes);
+    if end < bytes.len() {
+        let before = bytes.iter().filter(|b| **b == b'\n').count();
+        reader.report_cut(path, before.saturating_add(1));
+        bytes.truncate(end);
+    }
+    Ok(bytes)
+}
+
+/// Where the last LF ends.
+fn lines_end(bytes: &[u8]) -> usize
+    ensures value { result ≡ lines_end bytes.now }
+    ensures within { result ≤ length bytes.now }
+{
+    let mut end = 0;
+    for i in 0..bytes.len() {
+        if bytes[i] == b'\n' {
+            end = i + 1;
+        }
+    }
+    end
 }
 
 /// How the program ends where it can't read a file.

@@ -7,13 +7,14 @@ ghost use Rattle.upsd.specs.Replaying.{Replays, ReplaysOver, FailsBefore};
 
 use crate::ending::{Ending, ended};
 use crate::files::{Files, server_of};
-use crate::reading::{FileReader, read};
+use crate::reading::{FileReader, read_script};
 use nutcore::{MAX_AGE_DEFAULT, MaxAge, Server};
 use nutio::Sink;
 use nutreplay::replay;
 use std::alloc::Global;
 
-/// `upsd replay`: replays the script of the file over the UPSs, users and descriptions of theirs.
+/// `upsd replay`: replays the script of the file over the UPSs, users and descriptions of theirs,
+/// except for a last line that was cut.
 /// The caller is shown what they mean before the script is read.
 ///
 /// # Errors
@@ -58,6 +59,6 @@ fn replay_over<'a, R: FileReader, W: Sink>(
         × ReplaysOver W.contents W.failures
         (R.gives reader.now) server.old.state script.entry out.old (Err fault) out.new)) }
 {
-    let bytes = read(reader, script)?;
-    ended(script, replay(alloc, server, &bytes, out))
+    let lines = read_script(reader, script)?;
+    ended(script, replay(alloc, server, &lines, out))
 }

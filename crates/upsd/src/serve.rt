@@ -208,7 +208,7 @@ fn go_round<'a, S: Served<File>>(
     match nutloop::serve(server, sockets, |server, sockets| {
         let (sockets, is_record_cut) = sockets.shown();
         let error_of = |u| sockets.driver_error(u);
-        journal.write(rt, server, error_of, sockets.refusals(), is_record_cut);
+        journal.write(rt, server, error_of, sockets.counts(), is_record_cut);
     }) {
         Ok(()) => Ok(()),
         Err(fault) => Err(Ending::Loop(fault)),

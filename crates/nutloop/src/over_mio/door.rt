@@ -19,6 +19,8 @@ pub(super) struct Door {
     /// Newcomers may be waiting.
     pub is_knocked_at: bool,
     pub newcomer: Option<TcpStream>,
+    /// How often the system took no newcomer in. The count stops at its greatest number.
+    pub failures: u64,
 }
 
 /// Whether newcomers may be waiting after this error of `accept`. A newcomer that left gives
@@ -56,6 +58,7 @@ impl Door {
             listener,
             is_knocked_at: true,
             newcomer: None,
+            failures: 0,
         })
     }
 
@@ -69,6 +72,9 @@ impl Door {
             Ok((stream, address)) => Ok(self.take_in(stream, address.ip()).ok()),
             Err(error) => {
                 self.is_knocked_at = may_wait_after(error.kind())?;
+                if !self.is_knocked_at && error.kind() != ErrorKind::WouldBlock {
+                    self.failures = self.failures.saturating_add(1);
+                }
                 Ok(None)
             }
         }

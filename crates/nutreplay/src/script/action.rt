@@ -36,7 +36,7 @@ enum Form {
 
 /// What a line asks for, if it is one of a script's.
 #[tactic(auto, unfolding(crate::specs::Script::read_line))]
-pub(super) fn read_line(
+pub(crate) fn read_line(
     alloc: Global,
     list: &UpsList,
     line: &[u8],
