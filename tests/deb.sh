@@ -74,6 +74,8 @@ cat >"$folder/bin/upsc" <<'SH'
 [ "$*" != '-l 192.0.2.1:3493' ] || exec echo su
 [ "$*" != 'su@192.0.2.1:3493 ups.status' ] || exec cat "$FOLDER/status"
 SH
+printf '#!/bin/sh\nexit 2\n' >"$folder/bin/getent"
+printf '#!/bin/sh\necho "groupadd $*" >>"$FOLDER/ran"\n' >"$folder/bin/groupadd"
 chmod +x "$folder"/bin/*
 script() {
     echo "$3" >"$folder/status"
@@ -83,7 +85,7 @@ script() {
 }
 ran() { grep -q "$1" "$folder/ran"; }
 script postinst configure 'OB DISCHRG' && ! ran try-restart && grep -q 'the UPS su is OB: not restarted' "$folder/said" && ok
-script postinst configure 'OL CHRG' && ran '^try-restart upsd.service$' && [[ ! -s $folder/said ]] && ok
+script postinst configure 'OL CHRG' && ran '^try-restart upsd.service$' && ran '^groupadd --system nut$' && [[ ! -s $folder/said ]] && ok
 if script prerm remove 'FSD OL'; then exit 1; fi
 ! ran disable && grep -q 'the UPS su is FSD: not removed' "$folder/said" && ok
 script prerm remove OL && ran '^disable --now upsd.service$' && grep -q 'nobody serves' "$folder/said" && ! ran '^start' && ok

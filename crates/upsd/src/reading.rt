@@ -6,7 +6,7 @@ ghost use Rattle.upsd.specs.Reading.{CantBeRead, anything, ending_of_unread, lin
 
 use crate::ending::Ending;
 use std::fs::{self, File, OpenOptions};
-use std::io::{self, Error, ErrorKind};
+use std::io::{self, Error, ErrorKind, Read};
 use std::os::unix::fs::OpenOptionsExt;
 
 /// The mode of a file that only its owner reads and writes.
@@ -43,12 +43,21 @@ impl FileReader for HostRuntime {
     ghost gives = { λ _ _ _. ⊤ };
 
     fn read_file(&self, path: &str) -> Result<Vec<u8>, ReadFault> {
-        fs::read(self, path).map_err(|error| fault_of(&error))
+        read_all(self, path).map_err(|error| fault_of(&error))
     }
 
     fn report_cut(&self, path: &str, number: usize) {
         let _ = eprintln!(self; "upsd: {path}:{number}: the last line was cut, and is left out");
     }
+}
+
+/// Reads the file of this path, in room for as many bytes as it has: a record may be long.
+fn read_all(rt: &HostRuntime, path: &str) -> io::Result<Vec<u8>> {
+    let mut file = fs::open(rt, path)?;
+    let size = file.metadata()?.len();
+    let mut bytes = Vec::with_capacity(rt.alloc(), usize::try_from(size).unwrap_or(0))?;
+    file.read_to_end(&mut bytes)?;
+    Ok(bytes)
 }
 
 /// Why a read failed.
