@@ -9,6 +9,7 @@ import multiprocessing
 import os
 import re
 import select
+import shutil
 import socket
 import subprocess
 import sys
@@ -534,8 +535,8 @@ def a_terminal_that_the_server_may_not_open_is_named():
     """One that is open for its holder alone, or another user's."""
     reading, terminal = os.openpty()
     fcntl.ioctl(terminal, termios.TIOCEXCL)
-    words = [UPSD, "serve", "--ups", file("one.conf", "[su]\n"), "--users", file("one.users", ""), "--listen", "127.0.0.1:0"]
-    for readable in FOLDER, words[3], words[5]:
+    words = [shutil.copy(UPSD, path("upsd")), "serve", "--ups", file("one.conf", "[su]\n"), "--users", file("one.users", ""), "--listen", "127.0.0.1:0"]
+    for readable in FOLDER, words[0], words[3], words[5]:
         os.chmod(readable, 0o755)
     user = {} if os.geteuid() else {"user": 65534}
     with subprocess.Popen(words, stdout=subprocess.PIPE, stderr=terminal, **user) as server:
