@@ -115,7 +115,7 @@ def a_limit_ends_the_record_and_not_the_server():
     return serves_on("limited", MIB, "--record-limit", "1")
 
 
-def replaying_takes_three_times_the_record_at_most():
+def replaying_takes_five_times_the_record_at_most():
     """One of 8 MiB, of clients that poll and drivers that report."""
     turn = b"".join(b"client-hex %d %s\ntook %d 23\n" % (c, GET.hex().encode(), c) for c in (1, 2, 3)) + b"driver-hex su %s\n" % TWO.hex().encode() * 2
     head = b"up su\ndriver-hex su %s\n" % (TWO + READY).hex().encode() + b"open 192.0.2.1\n" * 3
@@ -126,7 +126,7 @@ def replaying_takes_three_times_the_record_at_most():
         child.returncode = status
     size, most = os.path.getsize(record), used.ru_maxrss * 1024
     assert status == 0 and printed.count(b"OL") == 3 * (8 * MIB // len(turn)), status
-    assert most <= 3 * size, f"{most / size:.2f} times"
+    assert most <= 5 * size, f"{most / size:.2f} times"
     return f"{most / size:.2f} times"
 
 
