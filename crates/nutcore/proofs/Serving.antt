@@ -3,6 +3,7 @@ use Rattle.std.proofs.Common.{◌≡◌, ℕ, ◌+◌, ◌<◌, ◌≤◌, true,
 use Rattle.std.proofs.lemmas.Bool.{cases_Bool}
 use Rattle.std.specs.Prelude.{IsTrue, IfOk, OnOk, OnErr, is_err, is_none, option_and_then}
 use Rattle.std.specs.Option.{option_map, option_map_or}
+use Rattle.std.specs.Result.{result_err}
 use denote.Ref.{Bor}
 use Rattle.nutcore.proofs.Common.{Change, Fault, SessionState, ServerState, session, with_session, with_session_changed}
 use Rattle.nutcore.specs.Session.{find, without, IdsRise, new_session}
@@ -10,21 +11,22 @@ use Rattle.std.specs.declared.alloc.AllocError.{AllocError}
 use Rattle.nutwords.specs.declared.limits.TheConstants.{LINE_LIMIT}
 use Rattle.nutlisting.specs.Lines.{IsWholeLine}
 use Rattle.nutanswer.specs.View.{Seen, AskerSeen}
-use Rattle.nutanswer.specs.Answer.{answer_to, IsReply, shares_version, text_of_answer, change_of_answer}
+use Rattle.nutanswer.specs.Answer.{Answer, answer_to, IsReply, shares_version, text_of_answer, change_of_answer}
 use Rattle.nutparse.specs.Command.{read_command}
 use Rattle.nuttracking.specs.Tracking.{TrackingState}
 use Rattle.nutcore.specs.Ups.{UpsState}
-use Rattle.nutcore.specs.Reply.{seen, asker, asker_of, reply, text_to, change_by, changed_session, changed_upses, changed_tracking}
+use Rattle.nutcore.specs.Reply.{seen, asker, asker_of, reply, text_to, refusal_by, change_by, changed_session, changed_upses, changed_tracking}
 use Rattle.nutcore.specs.Pump.{next_line, next_line_for, answered, after_line, after_lines, pump_stops, held_of, after_all_lines, pumped, after_notice, is_overlong, with_notice, wants_memory, shares_version_read}
 use Rattle.nutcore.specs.Step.{offered, may_take}
 use Rattle.nutparse.specs.declared.command.Command.{Command}
 use Rattle.nutparse.specs.declared.err_word.ErrWord.{ErrWord}
+use Rattle.nutparse.specs.ErrWord.{error_line}
 use Rattle.nutanswer.specs.declared.reply.Reply.{Reply}
-use Rattle.nutanswer.specs.declared.reply.Reply.TheVariants.{One, Clients}
+use Rattle.nutanswer.specs.declared.reply.Reply.TheVariants.{Refused, One, Clients}
 use Rattle.nutanswer.specs.declared.reply.Change.TheVariants.{Nothing}
 use Rattle.nutlisting.specs.Items.{text_of, client_listing}
 use Rattle.nutlisting.specs.declared.outbox.TheConstants.{OWED_LIMIT}
-use Rattle.nutcore.specs.Promises.{place, IsAt, PumpGives, refused_overlong, IsLineOrNone, IsShort, Replies, RepliesOrLacks, AnswersEach, text_with, change_in, ListsClients}
+use Rattle.nutcore.specs.Promises.{place, IsAt, PumpGives, refused_overlong, IsShort, Replies, RepliesOrLacks, AnswersEach, text_with, change_in, ListsClients}
 use Rattle.nutcore.proofs.Found.{find_id}
 use Rattle.nutcore.proofs.Changed.{change_is, session_put, notice_id}
 use Rattle.nutcore.proofs.Pumping.{after_line_is, is_next, session_after, session_after_id, line_done}
@@ -92,14 +94,26 @@ line_there o end h = grind arith
 pub no_line_there : (o : Option (List ℕ)) → option_map length o ≡ None → o ≡ None
 no_line_there o h = grind arith
 
+-- what a refusal says, and that it changes nothing
+refused_line : (s : ServerState) (c : ℕ) (word : ErrWord) (r : Result (Option Command) ErrWord) → refusal_by s c r ≡ Some word → (text_to s c r ≡ error_line word) × (change_by s c r ≡ Nothing)
+refused_line s c word (Err why) e = (cc e, refl)
+refused_line s c word (Ok None) e = cc e
+refused_line s c word (Ok (Some command)) e = of_answer (answer_to (seen s) (asker c s) command) e
+  where
+    of_answer : (a : Result Answer ErrWord) → result_err a ≡ Some word → (text_of_answer a ≡ error_line word) × (change_of_answer a ≡ Nothing)
+    of_answer (Err why) e = (cc e, refl)
+    of_answer (Ok answer) e = cc e
+
 -- what an answer says, and what it changes
 answers_as : (s : ServerState) (c : ℕ) (line : List ℕ) (reply : Reply) (clients : List (List ℕ)) → Replies s c line reply → ListsClients s.sessions reply clients →
     (text_to s c (read_command line) ≡ text_with clients reply) × (change_by s c (read_command line) ≡ change_in reply)
+answers_as s c line (Refused word) clients told lists = refused_line s c word (read_command line) told
 answers_as s c line (Clients name u) clients told lists = (told.1 ∙ ap (λ (addresses : List (List ℕ)). text_of (client_listing name addresses)) (sym lists), told.2)
 answers_as s c line answer clients told lists = (told.1, told.2)
 
 pub change_told : (s : ServerState) (c : ℕ) (line : List ℕ) (reply : Reply) → Replies s c line reply → change_by s c (read_command line) ≡ change_in reply
-change_told s c line reply told = grind arith
+change_told s c line (Refused word) told = (refused_line s c word (read_command line) told).1
+change_told s c line reply told = told.2
 
 pub short_told : (s : ServerState) (c : ℕ) (line : List ℕ) (reply : Reply) → Replies s c line reply → IsShort reply
 short_told s c line reply told = grind arith
@@ -184,12 +198,12 @@ left_out l n c i xs rise h =
     let lt : place c xs < length xs = omega (arith, h.first, h.within) in
     without_at l n c xs rise lt ∙ ap (λ j. take j xs ++ drop (j + 1) xs) h.first
 
--- the answer of one line at most that changes nothing
-pub replies_text : (s : ServerState) (c : ℕ) (line : List ℕ) (text : Bor (List ℕ)) (r : Result (Option Command) ErrWord) → read_command line ≡ r → shares_version_read s c r ≡ false → text_to s c r ≡ text.now → change_by s c r ≡ Nothing → length text.now ≤ OWED_LIMIT →
-    IsLineOrNone text.now → Replies s c line (One text Nothing)
-replies_text s c line text r e shares is none short one = (ap (shares_version_read s c) e ∙ shares, ap (text_to s c) e ∙ is, ap (change_by s c) e ∙ none, short, one)
+-- the answer to a line without words
+pub replies_nothing : (s : ServerState) (c : ℕ) (line : List ℕ) (text : Bor (List ℕ)) → read_command line ≡ Ok None → text.now ≡ [] → Replies s c line (One text Nothing)
+replies_nothing s c line text e is =
+    (ap (refusal_by s c) e, ap (text_to s c) e ∙ sym is, ap (change_by s c) e, omega (arith, ap (λ (b : List ℕ). length b) is), inr is)
 
--- so is the answer to a command
+-- the answer to a command
 whole_short : (text : List ℕ) → IsWholeLine text → length text ≤ OWED_LIMIT
 whole_short text whole =
     let few : length whole.line ≤ LINE_LIMIT = whole.answer.fits in
@@ -197,9 +211,10 @@ whole_short text whole =
 
 answer_replies : (s : ServerState) (c : ℕ) (line : List ℕ) (command : Command) (r : Result Reply AllocError) → read_command line ≡ Ok (Some command) → IfOk r (IsReply (seen s) (answer_to (seen s) (asker c s) command)) →
     OnErr r (IsTrue (shares_version (answer_to (seen s) (asker c s) command))) → RepliesOrLacks s c line r
+answer_replies s c line command (Ok (Refused word)) e is lacks = ap (refusal_by s c) e ∙ ap result_err is
 answer_replies s c line command (Ok (One text change)) e is lacks =
-    (ap (shares_version_read s c) e ∙ is.one, ap (text_to s c) e ∙ sym is.text, ap (change_by s c) e ∙ sym is.changes, whole_short text.now is.whole_line, inl is.whole_line)
-answer_replies s c line command (Ok answer) e is lacks = (ap (shares_version_read s c) e ∙ ap shares_version is, ap (text_to s c) e ∙ ap text_of_answer is, ap (change_by s c) e ∙ ap change_of_answer is)
+    (ap (refusal_by s c) e ∙ is.granted, ap (text_to s c) e ∙ sym is.text, ap (change_by s c) e ∙ sym is.changes, whole_short text.now is.whole_line, inl is.whole_line)
+answer_replies s c line command (Ok answer) e is lacks = (ap (refusal_by s c) e ∙ ap result_err is, ap (text_to s c) e ∙ ap text_of_answer is, ap (change_by s c) e ∙ ap change_of_answer is)
 answer_replies s c line command (Err refused) e is lacks = ap (shares_version_read s c) e ∙ lacks
 
 pub answers_each : (view : Seen) (who : AskerSeen) (command : Command) (r : Result Reply AllocError) → IfOk r (IsReply view (answer_to view who command)) → OnErr r (IsTrue (shares_version (answer_to view who command))) →

@@ -13,21 +13,21 @@ ghost use Rattle.nutlisting.specs.declared.byte_queue.TheConstants.{QUEUE_LIMIT}
 ghost use Rattle.nutwords.specs.declared.limits.TheConstants.{LINE_LIMIT};
 ghost use Rattle.nutcore.specs.Calls.{IsOutboxOf, standing_of};
 ghost use Rattle.nutlisting.specs.Counted.{IsCounted, KeepsCount};
-ghost use Rattle.nutcore.specs.Notes.{logout_of, who_of};
-ghost use Rattle.nutcore.specs.Promises.{IsLineOrNone, IsShort, text_with, change_in, refused_overlong, with_note};
+ghost use Rattle.nutcore.specs.Notes.{deed_of, logout_of, note_of_change, who_of};
+ghost use Rattle.nutcore.specs.Promises.{IsLineOrNone, IsShort, text_with, change_in, refused_overlong, with_note, note_in_reply};
 ghost use Rattle.nutcore.specs.Reply.{asker_of, seen_client, changed_session};
 ghost use Rattle.nutanswer.specs.View.{asker_seen, is_logged_in, addresses_at};
 ghost use Rattle.nutlisting.specs.Owed.{owed};
 
 use crate::HELD_LIMIT;
 use crate::event::Fault;
-use crate::lines::line_end;
-use crate::note::{Note, Notes, Who};
+use crate::lines::{ReadLine, line_end};
+use crate::note::{Deed, Note, Notes, Verb, Who};
 use crate::scratch::Scratch;
 use crate::server::Standing;
 use nutanswer::{Asker, Change, Reply};
 use nutlisting::{ByteQueue, Clients, Outbox};
-use nutparse::ErrWord;
+use nutparse::{Command, ErrWord};
 use nutusers::{Password, UpsId, UserName};
 use nutwords::Address;
 use std::alloc::{AllocError, Global};
@@ -227,6 +227,7 @@ impl Session {
             clients,
         } = scratch;
         match reply {
+            Reply::Refused(word) => self.outbox.push(word.line(), renders),
             Reply::One(text, change) => {
                 self.change(change);
                 if !text.is_empty() {
@@ -292,6 +293,56 @@ impl Session {
             Change::Ending => self.begin_ending(),
             Change::Tracking(on) => self.tracking = on,
         }
+    }
+
+    /// Notes what a line of it does, which was read and is answered so.
+    pub(crate) fn note(&self, read: &ReadLine<'_>, reply: &Reply<'_>, notes: &mut Notes)
+        ensures { notes.new ≡ with_note (note_in_reply self.now read.now reply.now) notes.old }
+    {
+        match reply {
+            Reply::Refused(word) => self.note_deed(read, Some(*word), notes),
+            Reply::One(_, Change::Nothing) | Reply::Many(_) | Reply::Clients(_, _) => {}
+            Reply::One(_, change) => self.note_change(read, change, notes),
+        }
+    }
+
+    /// Notes a change that it makes, by a line that was read so. It is a call of its own, so that
+    /// no other line pays for the room of a note.
+    #[inline(never)]
+    fn note_change(&self, read: &ReadLine<'_>, change: &Change<'_>, notes: &mut Notes)
+        ensures { notes.new ≡ with_note (note_of_change self.now read.now change.now) notes.old }
+    {
+        match change {
+            Change::Nothing | Change::Username(_) | Change::Password(_) | Change::Tracking(_) => {}
+            Change::Login(u) => notes.extend(Some(Note::LoggedIn(*u, self.who()))),
+            Change::Ending => self.note_logout(notes),
+            Change::Fsd(_) | Change::Order(_, _) | Change::Tracked(_, _, _) => {
+                self.note_deed(read, None, notes)
+            }
+        }
+    }
+
+    /// Notes a line that was read so, and refused by this word, or granted, where it asked for what
+    /// is noted.
+    #[inline(never)]
+    fn note_deed(&self, read: &ReadLine<'_>, refusal: Option<ErrWord>, notes: &mut Notes)
+        ensures { notes.new ≡ with_note (deed_of self.now refusal read.now) notes.old }
+    {
+        let (verb, ups, name) = match read {
+            Ok(Some(Command::Login(ups))) => (Verb::Login, ups, None),
+            Ok(Some(Command::Primary(ups))) => (Verb::Primary, ups, None),
+            Ok(Some(Command::Fsd(ups))) => (Verb::Fsd, ups, None),
+            Ok(Some(Command::SetVar(ups, name, _))) => (Verb::SetVar, ups, Some(name)),
+            Ok(Some(Command::InstCmd(ups, name, _))) => (Verb::InstCmd, ups, Some(name)),
+            _ => return,
+        };
+        notes.extend(Some(Note::Did(Deed {
+            who: self.who(),
+            verb,
+            ups: ups.read(),
+            name: name.and_then(|name| name.read()),
+            refusal,
+        })))
     }
 
     /// What is offered to the client now: the first 8,192 bytes of what it is owed, or all. Nothing
