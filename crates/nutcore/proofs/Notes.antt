@@ -10,7 +10,7 @@ use Rattle.nutparse.specs.declared.command.Command.{Command}
 use Rattle.nutparse.specs.declared.err_word.ErrWord.{ErrWord}
 use Rattle.nutparse.specs.Command.{read_command}
 use Rattle.nutanswer.specs.declared.reply.Reply.{Reply}
-use Rattle.nutcore.proofs.Common.{Fault, SessionState, ServerState, session, UpsId}
+use Rattle.nutcore.proofs.Common.{SessionState, ServerState, session, UpsId}
 use Rattle.nutcore.specs.declared.note.Note.{Note}
 use Rattle.nutcore.specs.declared.note.DataState.{DataState}
 use Rattle.nutcore.specs.declared.note.DataState.TheVariants as states
@@ -18,14 +18,13 @@ use Rattle.nutcore.specs.declared.note.Look.{Look}
 use Rattle.nutcore.specs.declared.note.TheConstants.{NOTE_LIMIT}
 use Rattle.nutcore.specs.declared.event.Event.TheVariants.{Feed, Took}
 use Rattle.nutcore.specs.Ups.{UpsState}
-use Rattle.nutcore.specs.Calls.{done}
 use Rattle.nutcore.specs.Step.{with_input, without_output, may_take, refused_after}
-use Rattle.nutcore.specs.Pump.{next_line, next_line_for, after_line, after_lines, pump_stops, held_of, holds_overlong}
+use Rattle.nutcore.specs.Pump.{next_line, next_line_for, after_line, after_lines, pump_stops, held_of, holds_overlong, is_overlong}
 use Rattle.nutcore.specs.History.{Execution, of_notice, next_execution, lines_executed, notice, pump_executions, executions_until, executions_by}
 use Rattle.nutcore.specs.Notes.{note_of, notes_of_lines, logout_of, refusal_note, status_note, data_note, notes_between, look_at, look_of, tick_note, tick_notes, IsNoted}
 use Rattle.nutcore.specs.Cost.{RunningServer}
 use Rattle.nutcore.specs.declared.event.Outcome.{Outcome}
-use Rattle.nutcore.specs.Promises.{Replies, refused_overlong, note_in_reply, with_note, next_note, with_next, with_changes, OfUps}
+use Rattle.nutcore.specs.Promises.{Replies, note_in_reply, with_note, next_note, with_next, with_changes, OfUps}
 use Rattle.nutcore.proofs.Loops.{none_of, stopped_line, all_lines_are}
 use Rattle.nutcore.proofs.EventSteps.{input_absent}
 use Rattle.nutcore.proofs.DriverSteps.{IsThere}
@@ -57,15 +56,6 @@ pumped_all k s t c e le none =
     let stop : pump_stops (after_lines k s c) c ≡ true = cc (e, none) in
     cc (all_executed k s c le stop, all_lines_are k s c le stop, e)
 
--- what is noted of the notice
-notice_noted : (t : ServerState) (c : ℕ) (x : SessionState) → session c t ≡ Some x → notes_of_lines (notice t c) ≡ cons_option (if holds_overlong x then logout_of x else None) []
-notice_noted t c x found =
-    ap (λ (o : Option SessionState). notes_of_lines (if option_map_or holds_overlong o false then of_notice t c ∷ [] else [])) found ∙ due (holds_overlong x)
-  where
-    due : (b : Bool) → notes_of_lines (if b then of_notice t c ∷ [] else []) ≡ cons_option (if b then logout_of x else None) []
-    due true = ap (λ (o : Option SessionState). cons_option (option_and_then logout_of o) []) found
-    due false = refl
-
 -- as many are noted of what is there and what comes as of what was there before
 take_onto : (n : ℕ) (xs ys : List Note) → take n (take n xs ++ ys) ≡ take n (xs ++ ys)
 take_onto zero xs ys = refl
@@ -86,13 +76,22 @@ noted_next s t c k notes notes' e so_far more =
     let xs : List Execution = lines_executed k s c in
     cc (one_noted (filter_map note_of xs) (next_note t c next) notes so_far, next_notes t c next, filter_map-append note_of xs (next_execution t c next), append-nil (next_execution t c next), executed-add k 1 s c)
 
--- it ends: all lines are done
-pub noted_all : (s t : ServerState) (c k : ℕ) (x : SessionState) (r : Result (Unit {0}) Fault) (notes notes' : List Note) → t ≡ after_lines k s c → k ≤ length (held_of (session c s)) → next_line_for t c ≡ None → session c t ≡ Some x → r ≡ refused_overlong (holds_overlong x)
-    → notes ≡ take NOTE_LIMIT (notes_of_lines (lines_executed k s c)) → notes' ≡ with_note (if holds_overlong x then logout_of x else None) notes → notes' ≡ take NOTE_LIMIT (notes_of_lines (executions_until s c (refused_after (done r))))
-noted_all s t c k x r notes notes' e le none found told so_far more =
-    let one = one_noted (notes_of_lines (lines_executed k s c)) (if holds_overlong x then logout_of x else None) notes so_far in
-    let ends : refused_after (done r) ≡ None = grind (arith, told) in
-    cc (more, notice_noted t c x found, one, ends, pumped_all k s t c e le none, filter_map-append note_of (lines_executed k s c) (notice t c))
+-- it ends: all lines are done, and nothing is left to do
+pub noted_end : (s t : ServerState) (c k : ℕ) (notes : List Note) → t ≡ after_lines k s c → k ≤ length (held_of (session c s)) → next_line_for t c ≡ None → is_overlong t c ≡ false
+    → notes ≡ take NOTE_LIMIT (notes_of_lines (lines_executed k s c)) → notes ≡ take NOTE_LIMIT (notes_of_lines (executions_until s c None))
+noted_end s t c k notes e le none short so_far =
+    let lines : List Execution = lines_executed k s c in
+    so_far ∙ ap (λ (xs : List Execution). take NOTE_LIMIT (notes_of_lines xs)) (sym (pumped_all k s t c e le none ∙ ap (λ (b : Bool). lines ++ (if b then of_notice t c ∷ [] else [])) short ∙ append-nil lines))
+
+-- or the session's line is too long
+pub noted_notice : (s t : ServerState) (c k : ℕ) (x : SessionState) (notes notes' : List Note) → t ≡ after_lines k s c → k ≤ length (held_of (session c s)) → next_line_for t c ≡ None → is_overlong t c ≡ true → session c t ≡ Some x
+    → notes ≡ take NOTE_LIMIT (notes_of_lines (lines_executed k s c)) → notes' ≡ with_note (logout_of x) notes → notes' ≡ take NOTE_LIMIT (notes_of_lines (executions_until s c None))
+noted_notice s t c k x notes notes' e le none long found so_far more =
+    let lines : List Execution = lines_executed k s c in
+    let noticed : notes_of_lines (notice t c) ≡ cons_option (logout_of x) [] =
+    ap (λ (b : Bool). notes_of_lines (if b then of_notice t c ∷ [] else [])) long ∙ ap (λ (o : Option SessionState). cons_option (option_and_then logout_of o) []) found in
+    more ∙ one_noted (notes_of_lines lines) (logout_of x) notes so_far
+    ∙ ap (take NOTE_LIMIT) (sym (ap (filter_map note_of) (pumped_all k s t c e le none) ∙ filter_map-append note_of lines (notice t c) ∙ ap (λ (ns : List Note). notes_of_lines lines ++ ns) noticed))
 
 -- so the next line is noted
 pub noted_reply : (s : ServerState) (c : ℕ) (line : List ℕ) (r : Reply) (read : Result (Option Command) ErrWord) (x : SessionState) (before notes : List Note) → next_line_for s c ≡ Some line → session c s ≡ Some x → Replies s c line r → read_command line ≡ read → notes ≡ with_note (note_in_reply x read r) before → notes ≡ with_next s c before

@@ -1,6 +1,6 @@
 -- What the private parts of the server promise one another. A reader of the public contracts needs
 -- none of it.
-use Rattle.std.specs.Prelude.{◌≡◌, ◌<◌, ◌≤◌, ◌-◌, ◌⊎◌, ◌==◌, ℕ, Bool, true, false, if◌then◌else◌}
+use Rattle.std.specs.Prelude.{◌≡◌, ◌<◌, ◌≤◌, ◌-◌, ◌⊎◌, ◌==◌, ℕ, true, false}
 use Rattle.std.specs.Prelude.{List, [], Option, Some, None, Result, Ok, Err, IsTrue, length, drop}
 use Rattle.std.specs.Prelude.{take, map, slice_get}
 use Rattle.std.specs.List.{position_or_len}
@@ -48,7 +48,9 @@ use Rattle.nutcore.specs.Notes.{deed_of, note_of_change, note_of, refusal_note, 
 use Rattle.nutcore.specs.Notes.{data_note}
 use Rattle.nutcore.specs.Cost.{RunningServer}
 use Rattle.nutcore.specs.Pump.{pumped, after_all_lines, after_lines, is_overlong, wants_memory}
-use Rattle.nutcore.specs.Pump.{shares_version_read, next_line_for}
+use Rattle.nutcore.specs.Pump.{shares_version_read, next_line, next_line_for, holds_overlong}
+use Rattle.nutcore.specs.declared.session.Next.{Next}
+use Rattle.nutcore.specs.declared.session.Next.TheVariants as nexts
 use Rattle.nutwords.specs.declared.limits.TheConstants.{LINE_LIMIT}
 use Rattle.nutwords.specs.Found.{FindsLine, Finds}
 use Rattle.nutwords.specs.declared.cut.Found.{Found}
@@ -104,9 +106,11 @@ PumpGives old c (Err (Memory k)) new =
     IsTrue (wants_memory (after_lines k old c) c) × (new ≡ after_lines k old c)
 PumpGives old c (Err fault) new = ⊥
 
--- whether the session's line was too long
-abbrev pub refused_overlong : Bool → Result (Unit {0}) Fault
-refused_overlong b = if b then Err LineTooLong else Ok tt
+-- the session has a line that may be executed, or too long a line, or nothing yet
+abbrev pub HasNext : SessionState → Next → Type 0
+HasNext x (nexts.Line end) = option_map length (next_line x) ≡ Some end
+HasNext x nexts.Overlong = (next_line x ≡ None) × (holds_overlong x ≡ true)
+HasNext x nexts.Nothing = (next_line x ≡ None) × (holds_overlong x ≡ false)
 
 -- a whole line, or nothing where a line without words is answered
 abbrev pub IsLineOrNone : List ℕ → Type 0

@@ -1,8 +1,8 @@
 //! One session: what it holds of its client's input, and what it owes.
-ghost use Rattle.std.specs.Prelude.{◌≡◌, ◌≤◌, ◌<◌, ◌-◌, ◌++◌, ℕ, List, length, take, IfOk, true, false, Some, None, [], ◌∷◌, if◌then◌else◌, drop};
+ghost use Rattle.std.specs.Prelude.{◌≡◌, ◌≤◌, ◌<◌, ◌-◌, ◌++◌, ℕ, List, length, take, IfOk, true, Some, None, [], ◌∷◌, if◌then◌else◌, drop};
 ghost use Rattle.std.specs.Option.{option_map};
 ghost use Rattle.nutcore.specs.Session.{new_session, begin_ending, SessionState};
-ghost use Rattle.nutcore.specs.Pump.{next_line, answered, holds_overlong, with_notice};
+ghost use Rattle.nutcore.specs.Pump.{next_line, answered, holds_overlong, notified};
 ghost use Rattle.nutcore.specs.Step.{joined, accepted, taken_from};
 ghost use Rattle.nutlisting.specs.declared.listing.clients.TheConstants.{SESSION_LIMIT};
 ghost use Rattle.std.specs.Borrow.{sem};
@@ -14,13 +14,12 @@ ghost use Rattle.nutwords.specs.declared.limits.TheConstants.{LINE_LIMIT};
 ghost use Rattle.nutcore.specs.Calls.{IsOutboxOf, standing_of};
 ghost use Rattle.nutlisting.specs.Counted.{IsCounted, KeepsCount};
 ghost use Rattle.nutcore.specs.Notes.{deed_of, logout_of, note_of_change, who_of};
-ghost use Rattle.nutcore.specs.Promises.{IsLineOrNone, IsShort, text_with, change_in, refused_overlong, with_note, note_in_reply};
+ghost use Rattle.nutcore.specs.Promises.{IsLineOrNone, IsShort, text_with, change_in, HasNext, with_note, note_in_reply};
 ghost use Rattle.nutcore.specs.Reply.{asker_of, seen_client, changed_session};
 ghost use Rattle.nutanswer.specs.View.{asker_seen, is_logged_in, addresses_at};
 ghost use Rattle.nutlisting.specs.Owed.{owed};
 
 use crate::HELD_LIMIT;
-use crate::event::Fault;
 use crate::lines::{ReadLine, line_end};
 use crate::note::{Deed, Note, Notes, Verb, Who};
 use crate::scratch::Scratch;
@@ -32,6 +31,16 @@ use nutusers::{Password, UpsId, UserName};
 use nutwords::Address;
 use std::alloc::{AllocError, Global};
 use std::marker::Model;
+
+/// What a session has to be served with.
+pub(crate) enum Next {
+    /// Its next line, which may be executed, and ends there.
+    Line(usize),
+    /// It holds 2,048 bytes without an LF.
+    Overlong,
+    /// Nothing, until bytes come or are taken.
+    Nothing,
+}
 
 /// A client's session.
 #[derive(Drop)]
@@ -186,14 +195,19 @@ impl Session {
         self.held.fill(piece)
     }
 
-    /// Where its next line ends, if it may be executed.
-    pub(crate) fn next_end(&self) -> Option<usize>
-        ensures { result ≡ option_map length (next_line self.now) }
+    /// What it has to be served with now.
+    pub(crate) fn next(&self) -> Next
+        ensures { HasNext self.now result }
     {
         if self.ending || !self.outbox.is_ready() {
-            return None;
+            return Next::Nothing;
         }
-        line_end(self.waiting())
+        let waiting = self.waiting();
+        match line_end(waiting) {
+            Some(end) => Next::Line(end),
+            None if waiting.len() >= HELD_LIMIT => Next::Overlong,
+            None => Next::Nothing,
+        }
     }
 
     /// Its next line, which ends there.
@@ -239,35 +253,17 @@ impl Session {
         }
     }
 
-    /// A session that holds 2,048 bytes without an LF is sent `ERR TOO-LONG`, and begins to end,
-    /// which is noted.
-    ///
-    /// # Errors
-    ///
-    /// `LineTooLong`, where it is sent `ERR TOO-LONG`.
-    pub(crate) fn refuse_overlong(
-        &mut self,
-        renders: &mut u64,
-        notes: &mut Notes,
-    ) -> Result<(), Fault>
-        ensures overlong { result ≡ refused_overlong (holds_overlong self.old) }
-        ensures noticed { self.new ≡ with_notice self.old }
-        ensures noted { notes.new ≡ with_note
-            (if holds_overlong self.old then logout_of self.old else None) notes.old }
+    /// It is sent `ERR TOO-LONG`, and begins to end, which is noted.
+    pub(crate) fn refuse_overlong(&mut self, renders: &mut u64, notes: &mut Notes)
+        requires { holds_overlong self.old ≡ true }
+        ensures notified { self.new ≡ notified self.old }
+        ensures noted { notes.new ≡ with_note (logout_of self.old) notes.old }
         ensures id { self.new.id ≡ self.old.id }
         ensures keeps { KeepsCount self.old.owed renders.old self.new.owed renders.new }
     {
-        if self.ending
-            || !self.outbox.is_ready()
-            || self.waiting().len() < HELD_LIMIT
-            || line_end(self.waiting()).is_some()
-        {
-            return Ok(());
-        }
         self.note_logout(notes);
         self.outbox.push(ErrWord::TooLong.line(), renders);
         self.begin_ending();
-        Err(Fault::LineTooLong)
     }
 
     /// It begins to end: what it holds is dropped, and its login given up.

@@ -19,7 +19,7 @@ ghost use Rattle.nutcore.specs.declared.note.TheConstants.{NOTE_LIMIT};
 use super::Server;
 use super::view::{ServerPeers, reply_to};
 use crate::event::{ClientId, Fault};
-use crate::session::Session;
+use crate::session::{Next, Session};
 use crate::ups::Ups;
 use nutanswer::{Change, Reply, View};
 use nutlisting::Clients;
@@ -80,14 +80,22 @@ impl Server {
         ensures at { IsAt c place self.new.state.sessions }
     {
         let mut done = 0;
-        while let Some(end) = self.sessions[place].next_end() {
-            if self.execute(c, place, end).is_err() {
-                return Err(Fault::Memory(done));
+        loop {
+            match self.sessions[place].next() {
+                Next::Line(end) => {
+                    if self.execute(c, place, end).is_err() {
+                        return Err(Fault::Memory(done));
+                    }
+                    done += 1;
+                }
+                Next::Overlong => {
+                    let session = &mut self.sessions[place];
+                    session.refuse_overlong(&mut self.scratch.renders, &mut self.notes);
+                    return Err(Fault::LineTooLong);
+                }
+                Next::Nothing => return Ok(()),
             }
-            done += 1;
         }
-        let session = &mut self.sessions[place];
-        session.refuse_overlong(&mut self.scratch.renders, &mut self.notes)
     }
 
     /// Executes the session's lines, and counts as placed what is offered then after so many bytes,
