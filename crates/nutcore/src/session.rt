@@ -13,7 +13,8 @@ ghost use Rattle.nutlisting.specs.declared.byte_queue.TheConstants.{QUEUE_LIMIT}
 ghost use Rattle.nutwords.specs.declared.limits.TheConstants.{LINE_LIMIT};
 ghost use Rattle.nutcore.specs.Calls.{IsOutboxOf, standing_of};
 ghost use Rattle.nutlisting.specs.Counted.{IsCounted, KeepsCount};
-ghost use Rattle.nutcore.specs.Notes.{deed_of, logout_of, note_of_change, who_of};
+ghost use Rattle.nutcore.specs.Notes.{deed_of, logout_of, who_of};
+ghost use Rattle.nutcore.specs.declared.note.Note.TheVariants.{LoggedIn};
 ghost use Rattle.nutcore.specs.Promises.{IsLineOrNone, IsShort, text_with, change_in, HasNext, with_note, note_in_reply};
 ghost use Rattle.nutcore.specs.Reply.{asker_of, seen_client, changed_session};
 ghost use Rattle.nutanswer.specs.View.{asker_seen, is_logged_in, addresses_at};
@@ -128,6 +129,7 @@ impl Session {
     }
 
     /// Notes its logout, where it is logged in.
+    #[inline(never)]
     pub(crate) fn note_logout(&self, notes: &mut Notes)
         ensures { notes.new ≡ with_note (logout_of self.now) notes.old }
     {
@@ -291,31 +293,28 @@ impl Session {
         }
     }
 
-    /// Notes what a line of it does, which was read and is answered so.
+    /// Notes what a line of it does, which was read and is answered so. What makes a note is a call
+    /// of its own, so that no other line pays for its room.
     pub(crate) fn note(&self, read: &ReadLine<'_>, reply: &Reply<'_>, notes: &mut Notes)
         ensures { notes.new ≡ with_note (note_in_reply self.now read.now reply.now) notes.old }
     {
         match reply {
             Reply::Refused(word) => self.note_deed(read, Some(*word), notes),
-            Reply::One(_, Change::Nothing) | Reply::Many(_) | Reply::Clients(_, _) => {}
-            Reply::One(_, change) => self.note_change(read, change, notes),
+            Reply::One(_, Change::Login(u)) => self.note_login(*u, notes),
+            Reply::One(_, Change::Ending) => self.note_logout(notes),
+            Reply::One(_, Change::Fsd(_) | Change::Order(_, _) | Change::Tracked(_, _, _)) => {
+                self.note_deed(read, None, notes)
+            }
+            _ => {}
         }
     }
 
-    /// Notes a change that it makes, by a line that was read so. It is a call of its own, so that
-    /// no other line pays for the room of a note.
+    /// Notes its login to the UPS.
     #[inline(never)]
-    fn note_change(&self, read: &ReadLine<'_>, change: &Change<'_>, notes: &mut Notes)
-        ensures { notes.new ≡ with_note (note_of_change self.now read.now change.now) notes.old }
+    fn note_login(&self, u: UpsId, notes: &mut Notes)
+        ensures { notes.new ≡ with_note (Some (LoggedIn u (who_of self.now))) notes.old }
     {
-        match change {
-            Change::Nothing | Change::Username(_) | Change::Password(_) | Change::Tracking(_) => {}
-            Change::Login(u) => notes.extend(Some(Note::LoggedIn(*u, self.who()))),
-            Change::Ending => self.note_logout(notes),
-            Change::Fsd(_) | Change::Order(_, _) | Change::Tracked(_, _, _) => {
-                self.note_deed(read, None, notes)
-            }
-        }
+        notes.extend(Some(Note::LoggedIn(u, self.who())));
     }
 
     /// Notes a line that was read so, and refused by this word, or granted, where it asked for what
