@@ -11,7 +11,7 @@ use Rattle.nutlisting.specs.Lines.{IsWholeLine}
 use Rattle.nutusers.specs.UpsList.{Ups}
 use Rattle.nutparse.specs.declared.err_word.ErrWord.{ErrWord}
 use Rattle.nutanswer.specs.declared.reply.Reply.{Reply}
-use Rattle.nutanswer.specs.declared.reply.Reply.TheVariants.{One, Many, Clients}
+use Rattle.nutanswer.specs.declared.reply.Reply.TheVariants.{Refused, One, Many, Clients}
 use Rattle.nutparse.specs.declared.command.Command.{Command}
 use Rattle.nutparse.specs.declared.command.Command.TheVariants.{ListUps}
 use Rattle.nutanswer.specs.View.{Seen, AskerSeen}
@@ -20,6 +20,7 @@ use Rattle.nutanswer.specs.Answer.{Answer, one_line, listing, answer_to, IsOneLi
 use Rattle.nutanswer.specs.Promises.{CarriesAnswer, Gives, GivesReply, GivesListing}
 
 pub carried : (s : Seen) (answer : Result Answer ErrWord) (reply : Reply) → CarriesAnswer answer reply → IsReply s answer reply
+carried s answer (Refused word) h = h
 carried s answer (One line change) h = h
 carried s answer (Many l) h = h
 carried s answer (Clients name u) h = absurd h
@@ -55,4 +56,4 @@ own_line line lawful short = record { line = line; whole = refl; answer = record
 -- answers its command
 pub own : (line : List ℕ) (words : List (List ℕ)) (change : Change) → line ++ 10 ∷ [] ≡ line_of words → IsWholeLine (line ++ 10 ∷ [])
     → IsOneLine (Ok (one_line words change)) (line ++ 10 ∷ []) change
-own line words change text whole = record { text = text; changes = refl; one = refl; whole_line = whole }
+own line words change text whole = record { text = text; changes = refl; one = refl; granted = refl; whole_line = whole }

@@ -1,7 +1,8 @@
 -- The table of answers (RFC 9271): a command's checks, its answer and its change.
-use Rattle.std.specs.Prelude.{◌≡◌, ℕ, Bool, true, false, List, [], ◌∷◌, codes, Option, Some}
+use Rattle.std.specs.Prelude.{◌≡◌, ℕ, Bool, true, false, List, [], ◌∷◌, codes, Option, Some, None}
 use Rattle.std.specs.Prelude.{Result, Ok, Err, slice_get}
 use Rattle.std.specs.Option.{option_and_then}
+use Rattle.std.specs.Result.{result_err}
 use Rattle.std.specs.Fmt.{decimal}
 use Rattle.nutwords.specs.Frame.{line_of}
 use Rattle.nuttracking.specs.Id.{id_text}
@@ -27,7 +28,7 @@ use Rattle.nutparse.specs.declared.err_word.ErrWord.TheVariants.{SetFailed, Inst
 use Rattle.nutanswer.specs.declared.reply.Change.{Change}
 use Rattle.nutanswer.specs.declared.reply.Change.TheVariants as changes
 use Rattle.nutanswer.specs.declared.reply.Reply.{Reply}
-use Rattle.nutanswer.specs.declared.reply.Reply.TheVariants.{One, Many, Clients}
+use Rattle.nutanswer.specs.declared.reply.Reply.TheVariants.{Refused, One, Many, Clients}
 use Rattle.nutparse.specs.ErrWord.{error_line}
 use Rattle.nutlisting.specs.Lines.{IsWholeLine}
 use Rattle.nutanswer.specs.View.{Seen, AskerSeen, login_count, addresses_at}
@@ -200,16 +201,18 @@ shares_version (Ok (one_line words change)) = false
 shares_version (Ok (listing l)) = true
 shares_version (Ok (listing_of_clients l)) = false
 
--- A line that answers a command, and what the command changes.
+-- A line that answers a command which isn't refused, and what the command changes.
 pub record IsOneLine (answer : Result Answer ErrWord) (line : List ℕ) (change : Change)
     : Type 0 where
   pub text : line ≡ text_of_answer answer
   pub changes : change ≡ change_of_answer answer
   pub one : shares_version answer ≡ false
+  pub granted : result_err answer ≡ None
   pub whole_line : IsWholeLine line
 
 -- The reply gives this answer. The clients of a UPS are those that are seen.
 abbrev pub IsReply : Seen → Result Answer ErrWord → Reply → Type 0
+IsReply s answer (Refused word) = answer ≡ Err word
 IsReply s answer (One line change) = IsOneLine answer line.now change
 IsReply s answer (Many l) = answer ≡ Ok (listing l)
 IsReply s answer (Clients name u) =

@@ -8,7 +8,7 @@ use Rattle.nutanswer.specs.declared.checks.Known.{Known}
 use Rattle.nutparse.specs.declared.command.Command.{Command}
 use Rattle.nutanswer.specs.declared.reply.Change.TheVariants.{Nothing}
 use Rattle.nutanswer.specs.declared.reply.Reply.{Reply}
-use Rattle.nutanswer.specs.declared.reply.Reply.TheVariants.{One, Many, Clients}
+use Rattle.nutanswer.specs.declared.reply.Reply.TheVariants.{Refused, One, Many, Clients}
 use Rattle.nutanswer.specs.View.{Seen, AskerSeen, ups_seen}
 use Rattle.nutanswer.specs.Checks.{◌>>=◌, ◌>>◌, KnownUps, unknown_ups, live, var_not_supported}
 use Rattle.nutanswer.specs.Checks.{cmd_not_supported, readonly, too_long, invalid_value}
@@ -67,6 +67,7 @@ settable x word = do
 
 -- The reply carries the whole answer, as each does but that of a listing of clients.
 abbrev pub CarriesAnswer : Result Answer ErrWord → Reply → Type 0
+CarriesAnswer answer (Refused word) = answer ≡ Err word
 CarriesAnswer answer (One line change) = IsOneLine answer line.now change
 CarriesAnswer answer (Many l) = answer ≡ Ok (listing l)
 CarriesAnswer answer (Clients name u) = ⊥

@@ -87,7 +87,7 @@ pub fn answer<'a, P: Peers>(
     };
     Ok(match row {
         Ok(reply) => reply,
-        Err(word) => refused(word),
+        Err(word) => Reply::Refused(word),
     })
 }
 
@@ -221,7 +221,7 @@ fn made<'a>(row: Made, line: &'a Line) -> Row<'a>
     Ok(Reply::One(line.as_slice(), Change::Nothing))
 }
 
-/// The reply of a row that lists, or the line of its error.
+/// The reply of a row that lists, or its refusal.
 fn listed<'a>(row: Listed) -> Result<Reply<'a>, AllocError>
     ensures ok { (s : Seen) (answer : Result Answer ErrWord)
         → GivesListing answer row → IfOk result (IsReply s answer) }
@@ -230,7 +230,7 @@ fn listed<'a>(row: Listed) -> Result<Reply<'a>, AllocError>
 {
     match row {
         Ok(listing) => Ok(Reply::Many(listing?)),
-        Err(word) => Ok(refused(word)),
+        Err(word) => Ok(Reply::Refused(word)),
     }
 }
 
@@ -239,14 +239,6 @@ fn ok<'a>(change: Change<'a>) -> Reply<'a>
     ensures { CarriesAnswer (Ok (one_line ok change.entry)) result }
 {
     Reply::One(b"OK\n", change)
-}
-
-/// The line of an error.
-fn refused<'a>(word: ErrWord) -> Reply<'a>
-    ensures { (answer : Result Answer ErrWord)
-        → answer ≡ Err word → CarriesAnswer answer result }
-{
-    Reply::One(word.line(), Change::Nothing)
 }
 
 /// A line of the program's own, with its LF.

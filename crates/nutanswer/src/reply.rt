@@ -2,6 +2,7 @@
 ghost use Rattle.std.specs.Prelude.{◌≡◌};
 
 use crate::Listing;
+use nutparse::ErrWord;
 use nutusers::{Password, UpsId, UserName};
 use nutwords::{Line, UpsName};
 use std::marker::Model;
@@ -101,6 +102,8 @@ pub enum Change<'a> {
 /// The answer to a command. Its line, that of an order and a password lie where they were made.
 #[derive(Drop)]
 pub enum Reply<'a> {
+    /// The command is refused, by this word. It changes nothing.
+    Refused(ErrWord),
     /// One line with its LF, and what the command changes.
     One(&'a [u8], Change<'a>),
     /// A listing (RFC 9271: LIST). No command that is answered so changes anything.

@@ -17,7 +17,7 @@ use Rattle.nutcore.proofs.Stepping.{Goes, goes, run_sent, run_taken_up}
 -- it is a line, without LF
 abbrev IsWhole : Execution → Type 0
 IsWhole (of_line s c line) = has_lf line ≡ false
-IsWhole (of_notice c) = ⊥
+IsWhole (of_notice s c) = ⊥
 
 -- a next line has no LF
 first_whole : (bytes line : List ℕ) → first_line bytes ≡ Some line → has_lf line ≡ false
@@ -42,7 +42,7 @@ tells = record {
   };
   stays = λ o u v up. record { goes_on = goes.stays o u v up; whole = λ kept going. tt };
   by_line = λ c s line n u. record { goes_on = goes.by_line c s line n u; whole = λ kept going. (first_whole n.asking.held line n.first, tt) };
-  by_notice = λ c x u long. record { goes_on = goes.by_notice c x u long; whole = λ kept (going : true ≡ false). cc };
+  by_notice = λ c s x u long. record { goes_on = goes.by_notice c s x u long; whole = λ kept (going : true ≡ false). cc };
   by_input = λ piece x u. record { goes_on = goes.by_input piece x u; whole = λ kept going. tt };
   by_output = λ n x u. record { goes_on = goes.by_output n x u; whole = λ kept going. tt };
   opens = λ id address. record { goes_on = goes.opens id address; whole = λ kept going. tt };
@@ -61,7 +61,7 @@ no_bytes line rest e = omega (arith, ap length e, length-append (with_lf line) r
 none_more : (xs : List Execution) → Each IsWhole xs → lines_of xs ≡ [] → xs ≡ []
 none_more [] whole e = refl
 none_more (of_line s c line ∷ xs) whole e = absurd (no_bytes line (lines_of xs) e)
-none_more (of_notice c ∷ xs) whole e = absurd whole.0
+none_more (of_notice s c ∷ xs) whole e = absurd whole.0
 
 same_line : (a b rest : List ℕ) → has_lf a ≡ false → has_lf b ≡ false → with_lf a ++ rest ≡ with_lf b → (a ≡ b) × (rest ≡ [])
 same_line a b rest f g e =
@@ -76,7 +76,7 @@ one_line c line [] none whole its e = absurd (no_bytes line [] (append-nil (with
 one_line c line (of_line s d l ∷ xs) none whole its e =
     let is = same_line l line (lines_of xs) whole.0 none e in
     (s, rw (its.0, is.0, none_more xs whole.1 is.1))
-one_line c line (of_notice d ∷ xs) none whole its e = absurd whole.0
+one_line c line (of_notice s d ∷ xs) none whole its e = absurd whole.0
 
 pub one_line_answered : OneLineIsAnswered
 one_line_answered old new es os c line lawful absent r asks whole going none_held none_owed =

@@ -37,12 +37,12 @@ use Rattle.nutcore.proofs.Stepping.{run_sent}
 -- what every part of an event keeps holds of the server on which a line is executed
 abbrev IsOn : (ServerState → Type 0) → Execution → Type 0
 IsOn P (of_line s c line) = P s
-IsOn P (of_notice c) = Unit {0}
+IsOn P (of_notice s c) = Unit {0}
 
 module _ (P : ServerState → Type 0) (Opens : List ℕ → Type 0) (kept : IsKept P Opens) where
   on_pump : (begun : ServerState) (c : ℕ) (x : Execution) → IsInPump begun c x → P begun → IsOn P x
   on_pump begun c (of_line s d line) h p = subst P (sym h.2) (by_lines P kept.pumped h.1 c begun p)
-  on_pump begun c (of_notice d) h p = tt
+  on_pump begun c (of_notice s d) h p = tt
 
   on_event : (s : ServerState) (e : Event) (x : Execution) → IsInEvent s e x → P s → IsOn P x
   unfolding with_input without_output
@@ -88,7 +88,7 @@ reading_answered s c lawful r read some = grind (arith, each_error_is_a_line, ea
 
 execution_answered : (x : Execution) → IsOn IsSound x → IsOn HaveLawfulAddresses x → IsAnswerIfAny (text_of x)
 execution_answered (of_line s c line) sound own = reading_answered s c (seen_lawful s sound own) (read_command line) (what_is_read_is_lawful line)
-execution_answered (of_notice c) sound own = λ some. each_error_is_a_line TooLong
+execution_answered (of_notice s c) sound own = λ some. each_error_is_a_line TooLong
 
 -- those that aren't empty
 abbrev texts : List Execution → List (List ℕ)

@@ -40,7 +40,7 @@ measures = record {
         omega (arith, owed, length-append n.asking.owed (reply s c line), length-append (reply s c line) []);
     holds = omega (arith, session_shortens s c line n);
   };
-  by_notice = λ c x u long. record {
+  by_notice = λ c s x u long. record {
     owes = omega (arith, length-append x.owed too_long_notice, length-append too_long_notice []);
     holds = grind (arith, long);
   };
@@ -58,9 +58,9 @@ pub accepted_few : (o : Option SessionState) (piece : List ℕ) → length (held
 accepted_few o piece le = grind (arith, length-take {A = ℕ})
 
 -- so are all that an event executes
-all_few : (s : ServerState) (e : Event) (m : Option ℕ) → IsSound s → length (executions_by s e m) ≤ HELD_LIMIT
+pub executions_few : (s : ServerState) (e : Event) (m : Option ℕ) → IsSound s → length (executions_by s e m) ≤ HELD_LIMIT
 unfolding executions_by asked_in_event
-all_few s e m h =
+executions_few s e m h =
     let held = λ (c : ℕ). held_sound s c h (session c s) refl in
     of_event (λ e. length (executions_by s e m) ≤ HELD_LIMIT) (λ e silent. rw (silent.executes s m) (omega arith))
     (λ c piece.
@@ -106,7 +106,7 @@ cost_few old new e =
 pub bounded : EachEventIsBounded
 bounded old new e o step h = record {
   lines = λ c. omega (arith, (of_event_of_client IsMeasured measures c old e (refused_after o)).holds);
-  in_all = all_few old e (refused_after o) h;
+  in_all = executions_few old e (refused_after o) h;
   placed = λ c. omega (arith, taken_few c old e, length-take QUEUE_LIMIT (owed_of (session c new)));
   bytes = (cost_few old new e).0;
   renders = (cost_few old new e).1;

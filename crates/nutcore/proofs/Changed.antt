@@ -50,9 +50,6 @@ presence_other f keeps c d s differ = by_change (λ t. presence c t ≡ presence
 pub either_notice : (P : SessionState → Type 0) (x : SessionState) → P (notified x) → P x → P (with_notice x)
 either_notice P x told quiet = cond_both (holds_overlong x) (notified x) x P (λ long. told) (λ short. quiet)
 
-pub notice_id : (x : SessionState) → (with_notice x).id ≡ x.id
-notice_id x = either_notice (λ y. y.id ≡ x.id) x refl refl
-
 -- what an opening leaves: one session more, or all as it was
 pub of_opened : (P : ServerState → Type 0) (s : ServerState) (address : List ℕ) (m : Option ℕ) → P s
     → (may_open s ≡ true → let t : ServerState = record s { sessions = s.sessions ++ new_session s.next_id address ∷ []; next_id = s.next_id + 1 } in P t) → P (opened s address m)

@@ -37,7 +37,7 @@ asks_no_more = record {
       (ap (λ (zs : List Execution). zs ++ ys) first.0 ∙ more.0, more.1);
   stays = λ o u v up h. (refl, (up h.0, h.1));
   by_line = λ c s line n u h. never_both n.asking.ending h.1 n.going;
-  by_notice = λ c x u long h. absurd (no_notice_to x h.1 long);
+  by_notice = λ c s x u long h. absurd (no_notice_to x h.1 long);
   by_input = λ piece x u h. (refl, h);
   by_output = λ n x u h. (refl, h);
   opens = λ id address h. absurd (false≢true h.0);

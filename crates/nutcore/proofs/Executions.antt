@@ -25,7 +25,7 @@ until_timely : (begun : ServerState) (c : ℕ) (m : Option ℕ) → All (IsInPum
 unfolding executions_until pump_executions after_lines
 until_timely begun c None =
     All-append (IsInPump begun c) _ _ (pump_line begun c _ begun 0 refl)
-    (cond_both (is_overlong (after_all_lines begun c) c) (of_notice c ∷ []) [] (All (IsInPump begun c)) (λ due. All-cons (IsInPump begun c) (of_notice c) [] (refl, due) (All-nil (IsInPump begun c))) (λ quiet. All-nil (IsInPump begun c)))
+    (cond_both (is_overlong (after_all_lines begun c) c) (of_notice (after_all_lines begun c) c ∷ []) [] (All (IsInPump begun c)) (λ due. All-cons (IsInPump begun c) (of_notice (after_all_lines begun c) c) [] (refl, refl, due) (All-nil (IsInPump begun c))) (λ quiet. All-nil (IsInPump begun c)))
 until_timely begun c (Some k) = pump_line begun c k begun 0 refl
 
 event_timely : (s : ServerState) (e : Event) (m : Option ℕ) → All (IsInEvent s e) (executions_by s e m)

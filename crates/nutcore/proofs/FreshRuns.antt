@@ -166,7 +166,7 @@ module _ (told : WhatIsAnsweredIsFresh) (opening : ANewServerIsSound) (keeps : E
   }
 
   line_fresh : (es : List Event) (os : List Outcome) (x : Execution) → IsTimely old es os x → IsAnsweredFresh old es os x
-  line_fresh es os (of_notice c) t = tt
+  line_fresh es os (of_notice s c) t = tt
   line_fresh es os (of_line s c line) t = λ command ups read asks kind.
       let (answer, given) = answer_there s c line command read kind in
       let (known, named, fresh) = told (seen s) (asker c s) command ups answer asks given in

@@ -97,7 +97,7 @@ pump_leads d = record {
   stays = λ s c before. heard_is (sym (append-nil before)) refl;
   joins = λ s m t xs ys f g. subst (λ (hs : List Happening). Leads s hs (xs ++ ys) t) (sym (map-append happening_of xs ys)) (both_lead s m t (map happening_of xs) (map happening_of ys) xs ys f g);
   by_line = λ s line next c before. heard_is (ap (λ (w : List ℕ). before ++ w) (one_told (of_line s d line) (reply (apart_from_bytes s) d line) c (core_alike s d line).reply)) (core_line s d line next);
-  by_notice = λ s long c before. heard_is (ap (λ (w : List ℕ). before ++ w) (one_told (of_notice d) too_long_notice c refl)) (core_notice s d long);
+  by_notice = λ s long c before. heard_is (ap (λ (w : List ℕ). before ++ w) (one_told (of_notice s d) too_long_notice c refl)) (core_notice s d long);
 }
 
 event_leads : (s : ServerState) (e : Event) (o : Outcome) → Leads s (happened_in_event s e o) (executions_by s e (refused_after o)) (after_by s e (refused_after o))

@@ -23,7 +23,7 @@ pub record IsOfPump (d : ℕ) (R : ServerState → List Execution → ServerStat
   pub stays : (s : ServerState) → R s [] s
   pub joins : (s m t : ServerState) (xs ys : List Execution) → R s xs m → R m ys t → R s (xs ++ ys) t
   pub by_line : (s : ServerState) (line : List ℕ) → next_line_for s d ≡ Some line → R s (of_line s d line ∷ []) (after_line s d)
-  pub by_notice : (s : ServerState) → is_overlong s d ≡ true → R s (of_notice d ∷ []) (with_session_changed notified d s)
+  pub by_notice : (s : ServerState) → is_overlong s d ≡ true → R s (of_notice s d ∷ []) (with_session_changed notified d s)
 
 module _ (d : ℕ) (R : ServerState → List Execution → ServerState → Type 0) (h : IsOfPump d R) where
   next_keeps : (s : ServerState) → R s (next_execution s d (next_line_for s d)) (after_line s d)
@@ -53,7 +53,7 @@ pub record IsOfEvents (c : ℕ) (R : ServerState → List Execution → List ℕ
   pub stays : (s : ServerState) → R s [] [] [] s
   pub joins : (s m t : ServerState) (xs ys : List Execution) (k k' a a' : List ℕ) → R s xs k a m → R m ys k' a' t → R s (xs ++ ys) (k ++ k') (a ++ a') t
   pub by_line : (d : ℕ) (s : ServerState) (line : List ℕ) → next_line_for s d ≡ Some line → R s (of_line s d line ∷ []) [] [] (after_line s d)
-  pub by_notice : (d : ℕ) (s : ServerState) → is_overlong s d ≡ true → R s (of_notice d ∷ []) [] [] (with_session_changed notified d s)
+  pub by_notice : (d : ℕ) (s : ServerState) → is_overlong s d ≡ true → R s (of_notice s d ∷ []) [] [] (with_session_changed notified d s)
   pub by_input : (d : ℕ) (s : ServerState) (piece : List ℕ) → R s [] [] (cond (eqb d c) (accepted_bytes (session d s) piece) []) (with_input s d piece)
   pub by_output : (d : ℕ) (s : ServerState) (n : ℕ) → may_take (session d s) n ≡ true → R s [] (cond (eqb d c) (take n (owed_of (session d s))) []) [] (without_output s d n)
   pub by_plain : (s : ServerState) (e : Event) (m : Option ℕ) → IsPlain e → R s [] [] [] (after_by s e m)
@@ -140,7 +140,7 @@ pub record IsOfClient (R : Presence → List Execution → List ℕ → List ℕ
   pub joins : (p q r : Presence) (xs ys : List Execution) (k k' a a' : List ℕ) → R p xs k a q → R q ys k' a' r → R p (xs ++ ys) (k ++ k') (a ++ a') r
   pub stays : (o : Option SessionState) (u v : Bool) → (u ≡ true → v ≡ true) → R (is_at o u) [] [] [] (is_at o v)
   pub by_line : (c : ℕ) (s : ServerState) (line : List ℕ) (n : IsNext s c line) (u : Bool) → R (is_at (Some n.asking) u) (of_line s c line ∷ []) [] [] (is_at (Some (session_after s c line n.asking)) u)
-  pub by_notice : (c : ℕ) (x : SessionState) (u : Bool) → holds_overlong x ≡ true → R (is_at (Some x) u) (of_notice c ∷ []) [] [] (is_at (Some (notified x)) u)
+  pub by_notice : (c : ℕ) (s : ServerState) (x : SessionState) (u : Bool) → holds_overlong x ≡ true → R (is_at (Some x) u) (of_notice s c ∷ []) [] [] (is_at (Some (notified x)) u)
   pub by_input : (piece : List ℕ) (x : SessionState) (u : Bool) → R (is_at (Some x) u) [] [] (accepted_bytes (Some x) piece) (is_at (Some (joined piece x)) u)
   pub by_output : (n : ℕ) (x : SessionState) (u : Bool) → R (is_at (Some x) u) [] (take n x.owed) [] (is_at (Some (taken_from n x)) u)
   pub opens : (id : ℕ) (address : List ℕ) → R (is_at None false) [] [] [] (is_at (Some (new_session id address)) true)
@@ -167,7 +167,7 @@ module _ (R : Presence → List Execution → List ℕ → List ℕ → Presence
         own_or_other c d (λ z b. R (presence z s) (cond b (of_line s d line ∷ []) []) [] [] (presence z (after_line s d)))
         (subst (λ (p : Presence). R p (of_line s d line ∷ []) [] [] (presence d (after_line s d))) (sym (ap (at_client s d) n.found)) (rw (own_after_line s d line n.asking n.found next) (h.by_line d s line n (ltb d s.next_id))))
         (λ differ. unmoved (presence c s) _ (other_after_line c d s line next differ));
-    by_notice = λ d s long. changing (λ b p q. R p (cond b (of_notice d ∷ []) []) [] [] q) notified (λ x. refl) d s (elim (cases_Option (session d s)) [ inl none ↦ cc (rw none at long) | inr (x, found) ↦ rw found (h.by_notice d x _ (rw found at long)) ]) (unmoved (presence c s) _ refl);
+    by_notice = λ d s long. changing (λ b p q. R p (cond b (of_notice s d ∷ []) []) [] [] q) notified (λ x. refl) d s (elim (cases_Option (session d s)) [ inl none ↦ cc (rw none at long) | inr (x, found) ↦ rw found (h.by_notice d s x _ (rw found at long)) ]) (unmoved (presence c s) _ refl);
     by_input = λ d s piece. changing (λ b p q. R p [] [] (cond b (accepted_bytes (session d s) piece) []) q) (joined piece) (λ x. refl) d s (elim (cases_Option (session d s)) [ inl none ↦ rw none (unmoved _ _ refl) | inr (x, found) ↦ rw found (h.by_input piece x _) ]) (unmoved (presence c s) _ refl);
     by_output = λ d s n may. changing (λ b p q. R p [] (cond b (take n (owed_of (session d s))) []) [] q) (taken_from n) (λ x. refl) d s (elim (cases_Option (session d s)) [ inl none ↦ cc (rw none at may) | inr (x, found) ↦ rw found (h.by_output n x _) ]) (unmoved (presence c s) _ refl);
     by_plain = λ s e m plain. of_plain_event (R (presence c s) [] [] []) c s e m plain (h.stays (session c s) _) (elim (cases_Option (session c s)) [ inl none ↦ rw none (unmoved _ _ refl) | inr (x, found) ↦ rw found (h.closes x _) ])

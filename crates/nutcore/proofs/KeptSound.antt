@@ -12,7 +12,7 @@ use Rattle.std.specs.declared.alloc.AllocError.{AllocError}
 use Rattle.nutcore.specs.Ups.{UpsState, with_unfinished}
 use Rattle.nuttracking.specs.Tracking.{TrackingState}
 use Rattle.nutcore.specs.Reply.{changed_session, changed_upses, changed_tracking}
-use Rattle.nutcore.specs.Pump.{next_line, answered, with_notice}
+use Rattle.nutcore.specs.Pump.{next_line, answered, notified}
 use Rattle.nutcore.specs.Step.{joined, taken_from}
 use Rattle.nutcore.specs.Promises.{IsTaken, IsCut, DoesLine, IsAt, OrderFits, ChangesUps}
 use Rattle.nutcore.specs.Sound.{IsSoundSession, IsSoundUps, IsSound}
@@ -24,7 +24,7 @@ use Rattle.nuttracking.specs.Acts.Act.{ordered}
 use Rattle.nutcore.proofs.Found.{find_id}
 use Rattle.nutcore.proofs.Serving.{set_is}
 use Rattle.nutcore.proofs.SoundUps.{sound_changes, length-changes, sound_fewer, sound_bytes, sound_report}
-use Rattle.nutcore.proofs.Sound.{IsTracked, act_tracked, each_found, sound_with, sound_upses, sound_answered, sound_notice, sound_input, sound_output, is_tracked}
+use Rattle.nutcore.proofs.Sound.{IsTracked, act_tracked, each_found, sound_with, sound_upses, sound_answered, sound_input, sound_output, is_tracked}
 
 -- a session in place of the one that stands there
 pub session_kept : (v : ServerState) (c i : ℕ) (x y : SessionState) → IsAt c i v.sessions → session c v ≡ Some x → y.id ≡ x.id → (IsSoundSession x → IsSoundSession y) → IsSound v →
@@ -37,9 +37,9 @@ pub answered_kept : (change : Change) (text : List ℕ) (x y : SessionState) (en
     IsSoundSession x → IsSoundSession y
 answered_kept change text x y end going is h = grind (arith, sound_answered)
 
--- its line is too long, or it stays
-pub noticed_kept : (x y : SessionState) → y ≡ with_notice x → IsSoundSession x → IsSoundSession y
-noticed_kept x y e h = subst IsSoundSession (sym e) (sound_notice x h)
+-- its line is too long
+pub notified_kept : (x y : SessionState) → y ≡ notified x → IsSoundSession x → IsSoundSession y
+notified_kept x y e h = subst IsSoundSession (sym e) (record { held = omega arith; ending = λ k. (refl, refl) })
 
 -- bytes join what it holds
 pub joined_kept : (piece : List ℕ) (x y : SessionState) → y ≡ joined piece x → IsSoundSession x → IsSoundSession y

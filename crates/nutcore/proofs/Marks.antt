@@ -31,7 +31,7 @@ each_at Q before (y ∷ front) back x each = subst (λ (zs : List Execution). Q 
 -- what goes on holding of a server and of what was executed before
 pub record GoesOn (Holds : List Execution → ServerState → Type 0) : Type 0 where
   pub line : (before : List Execution) (s : ServerState) (d : ℕ) (line : List ℕ) → next_line_for s d ≡ Some line → Holds before s → Holds (before ++ of_line s d line ∷ []) (after_line s d)
-  pub notice : (before : List Execution) (s : ServerState) (d : ℕ) → Holds before s → Holds (before ++ of_notice d ∷ []) (with_session_changed notified d s)
+  pub notice : (before : List Execution) (s : ServerState) (d : ℕ) → Holds before s → Holds (before ++ of_notice s d ∷ []) (with_session_changed notified d s)
   pub joins : (before : List Execution) (s : ServerState) (d : ℕ) (piece : List ℕ) → Holds before s → Holds before (with_session_changed (joined piece) d s)
   pub gives : (before : List Execution) (s : ServerState) (d n : ℕ) → Holds before s → Holds before (with_session_changed (taken_from n) d s)
   pub plain : (before : List Execution) (s : ServerState) (e : Event) (m : Option ℕ) → IsPlain e → Holds before s → Holds before (after_by s e m)
@@ -40,7 +40,7 @@ module _ {Holds : List Execution → ServerState → Type 0} (goes : GoesOn Hold
   -- on the server of each line, with those before it
   abbrev HeldAt : List Execution → Execution → Type 0
   HeldAt before (of_line s d line) = Holds before s
-  HeldAt before (of_notice d) = Unit {0}
+  HeldAt before (of_notice s d) = Unit {0}
 
   -- executions that lead from a server to another
   record Leads (s : ServerState) (xs : List Execution) (t : ServerState) : Type 0 where
@@ -93,7 +93,7 @@ told {IsSo = IsSo} {Sets = Sets} mark start = record {
     | inl was ↦ still before (of_line s d line) (told was)
     | inr sets ↦ inr (of_line s d line, (before, [], refl), sets)
   ];
-  notice = λ before s d told so. still before (of_notice d) (told (mark.notice s d so));
+  notice = λ before s d told so. still before (of_notice s d) (told (mark.notice s d so));
   joins = λ before s d piece told so. told (mark.joins s d piece so);
   gives = λ before s d n told so. told (mark.gives s d n so);
   plain = λ before s e m plain told so. told (mark.plain s e m plain so);

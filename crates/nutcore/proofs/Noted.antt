@@ -1,20 +1,25 @@
 -- What is read off the notes of an event.
-use Rattle.std.proofs.Common.{◌≡◌, ◌≢◌, ◌∙◌, ◌⊎◌, inl, inr, ℕ, suc, eqb, List, [], ◌∷◌, ◌++◌, Option, Some, None, refl, sym, ap, subst, cond, append-nil}
+use Rattle.std.proofs.Common.{◌≡◌, ◌≢◌, ◌∙◌, ◌⊎◌, inl, inr, ℕ, suc, eqb, List, [], ◌∷◌, ◌++◌, Option, Some, None, Result, Ok, refl, sym, ap, subst}
 use Rattle.std.specs.List.{filter_map, cons_option}
 use Rattle.std.specs.Option.{option_and_then}
 use Rattle.std.specs.Str.{bytes_eq}
-use Rattle.std.proofs.lemmas.List.Elements.{filter_map-append}
 use Rattle.nutdriver.specs.declared.fault.DriverFault.{DriverFault}
 use Rattle.nutusers.specs.UpsList.{id_at}
-use Rattle.nutcore.proofs.Common.{cond_both, UpsId, SessionState, UpsState, ServerState, session}
+use Rattle.nutparse.specs.declared.command.Command.{Command}
+use Rattle.nutparse.specs.declared.command.Command.TheVariants.{Login, Primary, Fsd, SetVar, InstCmd}
+use Rattle.nutparse.specs.declared.err_word.ErrWord.{ErrWord}
+use Rattle.nutparse.specs.Command.{read_command}
+use Rattle.nutanswer.specs.declared.reply.Change.TheVariants as changes
+use Rattle.nutcore.proofs.Common.{cond_both, option_map, UpsId, Change, SessionState, UpsState, ServerState, session}
 use Rattle.nutcore.specs.declared.note.DataState.{DataState}
 use Rattle.nutcore.specs.declared.note.DataState.TheVariants as states
 use Rattle.nutcore.specs.declared.note.Look.{Look}
 use Rattle.nutcore.specs.declared.note.Note.{Note}
-use Rattle.nutcore.specs.declared.note.Note.TheVariants.{Data, StatusChanged, LinesRefused}
-use Rattle.nutcore.specs.Pump.{after_all_lines, holds_overlong}
-use Rattle.nutcore.specs.History.{executions_until}
-use Rattle.nutcore.specs.Notes.{logout_of, note_of_notice, notes_of_lines, notes_of_pump, refusal_note, status_note, data_note, notes_between, tick_note, tick_notes}
+use Rattle.nutcore.specs.declared.note.Note.TheVariants.{Data, StatusChanged, LinesRefused, LoggedIn, LoggedOut, Did}
+use Rattle.nutcore.specs.declared.note.Deed.{Deed}
+use Rattle.nutcore.specs.History.{Execution, of_line, of_notice, client_of}
+use Rattle.nutcore.specs.Reply.{refusal_by, change_by}
+use Rattle.nutcore.specs.Notes.{who_of, logout_of, deed_of, note_read, note_of, refusal_note, status_note, data_note, notes_between, tick_note, tick_notes}
 use Rattle.nutcore.specs.NotedRuns.{Leads}
 
 -- one path after another
@@ -68,19 +73,55 @@ module _ {X : Type 0} (f : Note → Option X) (blind : IsBlind f) where
   blind_tick max_age was now place (x ∷ xs) =
       skip f (tick_note max_age was now place x) (tick_notes max_age was now (suc place) xs) (blind_data (id_at place) _ _) ∙ blind_tick max_age was now (suc place) xs
 
--- what reads no logout reads nothing of a session that is closed, and nothing of a notice
-module _ {X : Type 0} (f : Note → Option X) (deaf : (x : SessionState) → option_and_then f (logout_of x) ≡ None) where
-  pub deaf_close : (o : Option SessionState) → filter_map f (cons_option (option_and_then logout_of o) []) ≡ []
-  deaf_close None = refl
-  deaf_close (Some x) = skip f (logout_of x) [] (deaf x)
+-- what reads no logout reads nothing of a session that is closed
+pub deaf_close : {X : Type 0} (f : Note → Option X) → ((x : SessionState) → option_and_then f (logout_of x) ≡ None) → (o : Option SessionState)
+    → filter_map f (cons_option (option_and_then logout_of o) []) ≡ []
+deaf_close f deaf None = refl
+deaf_close f deaf (Some x) = skip f (logout_of x) [] (deaf x)
 
-  deaf_notice : (o : Option SessionState) → option_and_then f (option_and_then (λ x. cond (holds_overlong x) (logout_of x) None) o) ≡ None
-  deaf_notice None = refl
-  deaf_notice (Some x) = cond_both (holds_overlong x) (logout_of x) None (λ n. option_and_then f n ≡ None) (λ e. deaf x) (λ e. refl)
+-- what reads no deed
+pub deaf_deed : {X : Type 0} (f : Note → Option X) → ((deed : Deed) → f (Did deed) ≡ None) → (x : SessionState) (refusal : Option ErrWord) (read : Result (Option Command) ErrWord)
+    → option_and_then f (deed_of x refusal read) ≡ None
+deaf_deed f does x refusal (Ok (Some (Login ups))) = does _
+deaf_deed f does x refusal (Ok (Some (Primary ups))) = does _
+deaf_deed f does x refusal (Ok (Some (Fsd ups))) = does _
+deaf_deed f does x refusal (Ok (Some (SetVar ups name value))) = does _
+deaf_deed f does x refusal (Ok (Some (InstCmd ups name value))) = does _
+deaf_deed f does x refusal read = refl
 
-  pub deaf_pump : (s : ServerState) (c : ℕ) (m : Option ℕ) → filter_map f (notes_of_pump s c m) ≡ filter_map f (notes_of_lines (executions_until s c m))
-  deaf_pump s c None =
-      let lines : List Note = notes_of_lines (executions_until s c None) in
-      let t : ServerState = after_all_lines s c in
-      filter_map-append f lines (cons_option (note_of_notice t c) []) ∙ ap (λ xs. filter_map f lines ++ xs) (skip f (note_of_notice t c) [] (deaf_notice (session c t))) ∙ append-nil (filter_map f lines)
-  deaf_pump s c (Some k) = refl
+-- what reads nothing of a session
+pub record IsDeaf {X : Type 0} (f : Note → Option X) (x : SessionState) : Type 0 where
+  pub logs_in : (u : UpsId) → f (LoggedIn u (who_of x)) ≡ None
+  pub logs_out : (u : UpsId) → f (LoggedOut u (who_of x)) ≡ None
+  pub does : (deed : Deed) → f (Did deed) ≡ None
+
+module _ {X : Type 0} (f : Note → Option X) (x : SessionState) (deaf : IsDeaf f x) where
+  pub deaf_logout : option_and_then f (logout_of x) ≡ None
+  deaf_logout = of_login x.login
+    where
+      of_login : (o : Option UpsId) → option_and_then f (option_map (λ u. LoggedOut u (who_of x)) o) ≡ None
+      of_login None = refl
+      of_login (Some u) = deaf.logs_out u
+
+  deaf_read : (read : Result (Option Command) ErrWord) (refusal : Option ErrWord) (change : Change) → option_and_then f (note_read x read refusal change) ≡ None
+  deaf_read read (Some word) change = deaf_deed f deaf.does x (Some word) read
+  deaf_read read None (changes.Login u) = deaf.logs_in u
+  deaf_read read None changes.Ending = deaf_logout
+  deaf_read read None (changes.Fsd u) = deaf_deed f deaf.does x None read
+  deaf_read read None (changes.Order u line) = deaf_deed f deaf.does x None read
+  deaf_read read None (changes.Tracked u id line) = deaf_deed f deaf.does x None read
+  deaf_read read None change = refl
+
+-- reads nothing of what is executed for it
+pub deaf_execution : {X : Type 0} (f : Note → Option X) (y : Execution) → ((s : ServerState) (x : SessionState) → session (client_of y) s ≡ Some x → IsDeaf f x) → option_and_then f (note_of y) ≡ None
+deaf_execution f (of_line s c line) deaf = of_session (session c s) (deaf s) (read_command line)
+  where
+    of_session : (o : Option SessionState) → ((x : SessionState) → o ≡ Some x → IsDeaf f x) → (read : Result (Option Command) ErrWord)
+        → option_and_then f (option_and_then (λ x. note_read x read (refusal_by s c read) (change_by s c read)) o) ≡ None
+    of_session None deaf read = refl
+    of_session (Some x) deaf read = deaf_read f x (deaf x refl) read (refusal_by s c read) (change_by s c read)
+deaf_execution f (of_notice s c) deaf = of_session (session c s) (deaf s)
+  where
+    of_session : (o : Option SessionState) → ((x : SessionState) → o ≡ Some x → IsDeaf f x) → option_and_then f (option_and_then logout_of o) ≡ None
+    of_session None deaf = refl
+    of_session (Some x) deaf = deaf_logout f x (deaf x refl)

@@ -1,12 +1,8 @@
 -- What is noted of the data of a UPS.
-use Rattle.std.proofs.Common.{◌≡◌, ◌≢◌, ◌∙◌, inl, inr, ℕ, zero, suc, ◌+◌, ◌<◌, Bool, true, false, eqb, List, [], ◌∷◌, Option, Some, None, Result, Ok, refl, sym, ap, subst, cond, arith, max}
+use Rattle.std.proofs.Common.{◌≡◌, ◌≢◌, ◌∙◌, inl, inr, ℕ, zero, suc, ◌+◌, ◌<◌, false, eqb, List, [], ◌∷◌, Option, Some, None, refl, sym, ap, subst, cond, arith, max}
 use Rattle.std.specs.List.{filter_map, cons_option}
 use Rattle.std.specs.Option.{option_and_then}
 use Rattle.std.proofs.lemmas.Bool.{cases_Bool, eq-eqb}
-use Rattle.nutparse.specs.declared.command.Command.{Command}
-use Rattle.nutparse.specs.declared.command.Command.TheVariants.{Logout}
-use Rattle.nutparse.specs.declared.err_word.ErrWord.{ErrWord}
-use Rattle.nutparse.specs.Command.{read_command}
 use Rattle.nuttracking.specs.Tracking.{nothing_tracked}
 use Rattle.nutusers.specs.UpsList.{id_at}
 use Rattle.nutcore.proofs.Common.{slice_get, slice_get-map, option_map, option_map_or, cond_both, eqb-true, eqb-false, UpsId, Event, Outcome, SessionState, UpsState, ServerState, session, ups_at, with_ups_changed, after}
@@ -17,16 +13,15 @@ use Rattle.nutcore.specs.declared.note.Look.{Look}
 use Rattle.nutcore.specs.declared.note.Note.{Note}
 use Rattle.nutcore.specs.Session.{without}
 use Rattle.nutcore.specs.Ups.{ping_is_due, after_tick}
-use Rattle.nutcore.specs.Reply.{reply, change_by}
 use Rattle.nutcore.specs.Step.{with_input, without_output, may_take, connected, disconnected, after_driver_took, pumped_until, after_by, ticked, refused_after}
-use Rattle.nutcore.specs.History.{Execution, of_line, of_notice, executions_until}
+use Rattle.nutcore.specs.History.{Execution, executions_by}
 use Rattle.nutcore.specs.Isolation.{without_commands, kept_from_clients}
-use Rattle.nutcore.specs.Notes.{is_noted, logout_of, note_of_command, note_read, note_of, notes_of_lines, notes_of_pump, data_state_of, look_of, refusal_note, status_note, data_note, notes_between, look_at, tick_note, tick_notes, all_notes}
+use Rattle.nutcore.specs.Notes.{logout_of, note_of, notes_of_lines, data_state_of, look_of, refusal_note, status_note, data_note, notes_between, look_at, tick_note, tick_notes, all_notes}
 use Rattle.nutcore.specs.NotedRuns.{Leads, data_at, data_in}
 use Rattle.nutcore.proofs.Changed.{of_opened}
 use Rattle.nutcore.proofs.DriverText.{changed_both, ups_after_bytes, lines_read, bytes_change}
 use Rattle.nutcore.proofs.Isolation.{masked_at, own}
-use Rattle.nutcore.proofs.Noted.{leads_nowhere, skip, noted_or_same, deaf_close, deaf_pump}
+use Rattle.nutcore.proofs.Noted.{leads_nowhere, skip, noted_or_same, deaf_close, deaf_execution}
 use Rattle.nutcore.proofs.UpsPlaces.{same_ups, changed_there, other_ups}
 
 -- what the notes of an event say of the UPS
@@ -143,27 +138,10 @@ tick_tells u s seconds =
 of_logout : (u : UpsId) (x : SessionState) → option_and_then (data_in u) (logout_of x) ≡ None
 of_logout u x = grind arith
 
-of_command : (u : UpsId) (x : SessionState) (refusal : Option (List ℕ)) (command : Command) → option_and_then (data_in u) (note_of_command x refusal command) ≡ None
-of_command u x refusal Logout = of_logout u x
-of_command u x refusal command = refl
-
-of_read : (u : UpsId) (x : SessionState) (r : Result (Option Command) ErrWord) (text : List ℕ) → option_and_then (data_in u) (note_read x r text) ≡ None
-of_read u x (Ok (Some command)) text = of_command u x _ command
-of_read u x r text = refl
-
-of_told : (u : UpsId) (told : Bool) (o : Option SessionState) (r : Result (Option Command) ErrWord) (text : List ℕ) → option_and_then (data_in u) (cond told (option_and_then (λ x. note_read x r text) o) None) ≡ None
-of_told u false o r text = refl
-of_told u true None r text = refl
-of_told u true (Some x) r text = of_read u x r text
-
 lines_silent : (u : UpsId) (xs : List Execution) → filter_map (data_in u) (notes_of_lines xs) ≡ []
 lines_silent u [] = refl
-lines_silent u (of_line s c line ∷ xs) =
-    skip (data_in u) (note_of (of_line s c line)) (notes_of_lines xs) (of_told u (is_noted (reply s c line) (change_by s c (read_command line))) (session c s) (read_command line) (reply s c line)) ∙ lines_silent u xs
-lines_silent u (of_notice c ∷ xs) = lines_silent u xs
-
-pump_silent : (u : UpsId) (s : ServerState) (c : ℕ) (m : Option ℕ) → filter_map (data_in u) (notes_of_pump s c m) ≡ []
-pump_silent u s c m = deaf_pump (data_in u) (of_logout u) s c m ∙ lines_silent u (executions_until s c m)
+lines_silent u (y ∷ xs) =
+    skip (data_in u) (note_of y) (notes_of_lines xs) (deaf_execution (data_in u) y (λ s x found. record { logs_in = λ v. refl; logs_out = λ v. refl; does = λ deed. refl })) ∙ lines_silent u xs
 
 -- in each event
 pub event_tells : (u : UpsId) (s : ServerState) (e : Event) (o : Outcome) → Tells u s (all_notes s e (refused_after o) (after s e o)) (after s e o)
@@ -178,13 +156,12 @@ event_tells u s (Tick seconds) o = tick_tells u s seconds
 event_tells u s (Open address) o = of_opened (λ t. Tells u s [] t) s address (refused_after o) refl (λ room. refl)
 event_tells u s (Feed c piece) o =
     let t : ServerState = pumped_until (with_input s c piece) c (refused_after o) in
-    silent u s t (notes_of_pump (with_input s c piece) c (refused_after o)) (pump_silent u (with_input s c piece) c (refused_after o)) (same_data u s t (own s (Feed c piece) (refused_after o) c refl).server)
+    let xs : List Execution = executions_by s (Feed c piece) (refused_after o) in
+    silent u s t (notes_of_lines xs) (lines_silent u xs) (same_data u s t (own s (Feed c piece) (refused_after o) c refl).server)
 event_tells u s (Took c n) o =
-    let b : Bool = may_take (session c s) n in
-    let notes : List Note = notes_of_pump (without_output s c n) c (refused_after o) in
-    let t : ServerState = cond b (pumped_until (without_output s c n) c (refused_after o)) s in
-    silent u s t (cond b notes []) (cond_both b notes [] (λ notes. filter_map (data_in u) notes ≡ []) (λ may. pump_silent u (without_output s c n) c (refused_after o)) (λ never. refl))
-    (same_data u s t (own s (Took c n) (refused_after o) c refl).server)
+    let t : ServerState = cond (may_take (session c s) n) (pumped_until (without_output s c n) c (refused_after o)) s in
+    let xs : List Execution = executions_by s (Took c n) (refused_after o) in
+    silent u s t (notes_of_lines xs) (lines_silent u xs) (same_data u s t (own s (Took c n) (refused_after o) c refl).server)
 event_tells u s (Close c) o =
     let t : ServerState = record s { sessions = without c s.sessions } in
     silent u s t (cons_option (option_and_then logout_of (session c s)) []) (deaf_close (data_in u) (of_logout u) (session c s)) refl

@@ -2,7 +2,7 @@
 use Rattle.std.proofs.Common.{◌≡◌, ◌∙◌, ℕ, zero, suc, ◌+◌, ◌-◌, ◌≤◌, Bool, true, false, List, [], ◌∷◌, ◌++◌, Option, Some, None, Result, refl, ap, sym, arith, length, take, zero-add, append-nil, append_assoc, slice_get}
 use Rattle.std.specs.Prelude.{if◌then◌else◌}
 use Rattle.std.specs.List.{filter_map, cons_option}
-use Rattle.std.specs.Option.{option_and_then, option_map}
+use Rattle.std.specs.Option.{option_and_then, option_map, option_map_or}
 use Rattle.std.proofs.lemmas.Bool.Decides.{nat_tests}
 use Rattle.std.proofs.lemmas.List.Elements.{filter_map-append}
 use Rattle.std.proofs.lemmas.Slice.Eq.{bytes_eq-Decides}
@@ -10,7 +10,7 @@ use Rattle.nutparse.specs.declared.command.Command.{Command}
 use Rattle.nutparse.specs.declared.err_word.ErrWord.{ErrWord}
 use Rattle.nutparse.specs.Command.{read_command}
 use Rattle.nutanswer.specs.declared.reply.Reply.{Reply}
-use Rattle.nutcore.proofs.Common.{Fault, SessionState, ServerState, session, UpsId}
+use Rattle.nutcore.proofs.Common.{SessionState, ServerState, session, UpsId}
 use Rattle.nutcore.specs.declared.note.Note.{Note}
 use Rattle.nutcore.specs.declared.note.DataState.{DataState}
 use Rattle.nutcore.specs.declared.note.DataState.TheVariants as states
@@ -18,14 +18,13 @@ use Rattle.nutcore.specs.declared.note.Look.{Look}
 use Rattle.nutcore.specs.declared.note.TheConstants.{NOTE_LIMIT}
 use Rattle.nutcore.specs.declared.event.Event.TheVariants.{Feed, Took}
 use Rattle.nutcore.specs.Ups.{UpsState}
-use Rattle.nutcore.specs.Calls.{done}
 use Rattle.nutcore.specs.Step.{with_input, without_output, may_take, refused_after}
-use Rattle.nutcore.specs.Pump.{next_line, next_line_for, after_line, after_lines, after_all_lines, pump_stops, held_of, holds_overlong}
-use Rattle.nutcore.specs.History.{Execution, next_execution, lines_executed, notice, pump_executions, executions_until}
-use Rattle.nutcore.specs.Notes.{note_of, notes_of_lines, notes_of_pump, note_of_notice, logout_of, refusal_note, status_note, data_note, notes_between, look_at, look_of, tick_note, tick_notes, IsNoted}
+use Rattle.nutcore.specs.Pump.{next_line, next_line_for, after_line, after_lines, pump_stops, held_of, holds_overlong, is_overlong}
+use Rattle.nutcore.specs.History.{Execution, of_notice, next_execution, lines_executed, notice, pump_executions, executions_until, executions_by}
+use Rattle.nutcore.specs.Notes.{note_of, notes_of_lines, logout_of, refusal_note, status_note, data_note, notes_between, look_at, look_of, tick_note, tick_notes, IsNoted}
 use Rattle.nutcore.specs.Cost.{RunningServer}
 use Rattle.nutcore.specs.declared.event.Outcome.{Outcome}
-use Rattle.nutcore.specs.Promises.{Replies, refused_overlong, note_in_reply, with_note, next_note, with_next, with_changes, OfUps}
+use Rattle.nutcore.specs.Promises.{Replies, note_in_reply, with_note, next_note, with_next, with_changes, OfUps}
 use Rattle.nutcore.proofs.Loops.{none_of, stopped_line, all_lines_are}
 use Rattle.nutcore.proofs.EventSteps.{input_absent}
 use Rattle.nutcore.proofs.DriverSteps.{IsThere}
@@ -50,15 +49,12 @@ all_executed k s c le stop =
     let e : n ≡ k + (n - k) = omega arith in
     cc (executed-add k (n - k) s c, none_executed (n - k) (after_lines k s c) c stop, append-nil (lines_executed k s c))
 
--- all that the pump notes, where it ends there
-pumped_all : (k : ℕ) (s t : ServerState) (c : ℕ) → t ≡ after_lines k s c → k ≤ length (held_of (session c s)) → next_line_for t c ≡ None → notes_of_pump s c None ≡ notes_of_lines (lines_executed k s c) ++ cons_option (note_of_notice t c) []
+-- all that the pump executes, where it ends there
+pumped_all : (k : ℕ) (s t : ServerState) (c : ℕ) → t ≡ after_lines k s c → k ≤ length (held_of (session c s)) → next_line_for t c ≡ None → executions_until s c None ≡ lines_executed k s c ++ notice t c
 unfolding executions_until pump_executions
 pumped_all k s t c e le none =
     let stop : pump_stops (after_lines k s c) c ≡ true = cc (e, none) in
-    let all : List Execution = lines_executed (length (held_of (session c s))) s c in
-    let lines : notes_of_lines (executions_until s c None) ≡ notes_of_lines (lines_executed k s c) =
-    grind (arith, filter_map-append note_of all (notice (after_all_lines s c) c), append-nil (filter_map note_of all), all_executed k s c le stop) in
-    cc (lines, all_lines_are k s c le stop, e)
+    cc (all_executed k s c le stop, all_lines_are k s c le stop, e)
 
 -- as many are noted of what is there and what comes as of what was there before
 take_onto : (n : ℕ) (xs ys : List Note) → take n (take n xs ++ ys) ≡ take n (xs ++ ys)
@@ -80,43 +76,54 @@ noted_next s t c k notes notes' e so_far more =
     let xs : List Execution = lines_executed k s c in
     cc (one_noted (filter_map note_of xs) (next_note t c next) notes so_far, next_notes t c next, filter_map-append note_of xs (next_execution t c next), append-nil (next_execution t c next), executed-add k 1 s c)
 
--- it ends: all lines are done
-pub noted_all : (s t : ServerState) (c k : ℕ) (x : SessionState) (r : Result (Unit {0}) Fault) (notes notes' : List Note) → t ≡ after_lines k s c → k ≤ length (held_of (session c s)) → next_line_for t c ≡ None → session c t ≡ Some x → r ≡ refused_overlong (holds_overlong x)
-    → notes ≡ take NOTE_LIMIT (notes_of_lines (lines_executed k s c)) → notes' ≡ with_note (if holds_overlong x then logout_of x else None) notes → notes' ≡ take NOTE_LIMIT (notes_of_pump s c (refused_after (done r)))
-noted_all s t c k x r notes notes' e le none found told so_far more =
-    let one = one_noted (notes_of_lines (lines_executed k s c)) (note_of_notice t c) notes so_far in
-    let noticed : note_of_notice t c ≡ (if holds_overlong x then logout_of x else None) = ap (λ (o : Option SessionState). option_and_then (λ y. if holds_overlong y then logout_of y else None) o) found in
-    let ends : refused_after (done r) ≡ None = grind (arith, told) in
-    cc (more, noticed, one, ends, pumped_all k s t c e le none)
+-- it ends: all lines are done, and nothing is left to do
+pub noted_end : (s t : ServerState) (c k : ℕ) (notes : List Note) → t ≡ after_lines k s c → k ≤ length (held_of (session c s)) → next_line_for t c ≡ None → is_overlong t c ≡ false
+    → notes ≡ take NOTE_LIMIT (notes_of_lines (lines_executed k s c)) → notes ≡ take NOTE_LIMIT (notes_of_lines (executions_until s c None))
+noted_end s t c k notes e le none short so_far =
+    let lines : List Execution = lines_executed k s c in
+    so_far ∙ ap (λ (xs : List Execution). take NOTE_LIMIT (notes_of_lines xs)) (sym (pumped_all k s t c e le none ∙ ap (λ (b : Bool). lines ++ (if b then of_notice t c ∷ [] else [])) short ∙ append-nil lines))
+
+-- or the session's line is too long
+pub noted_notice : (s t : ServerState) (c k : ℕ) (x : SessionState) (notes notes' : List Note) → t ≡ after_lines k s c → k ≤ length (held_of (session c s)) → next_line_for t c ≡ None → is_overlong t c ≡ true → session c t ≡ Some x
+    → notes ≡ take NOTE_LIMIT (notes_of_lines (lines_executed k s c)) → notes' ≡ with_note (logout_of x) notes → notes' ≡ take NOTE_LIMIT (notes_of_lines (executions_until s c None))
+noted_notice s t c k x notes notes' e le none long found so_far more =
+    let lines : List Execution = lines_executed k s c in
+    let noticed : notes_of_lines (notice t c) ≡ cons_option (logout_of x) [] =
+    ap (λ (b : Bool). notes_of_lines (if b then of_notice t c ∷ [] else [])) long ∙ ap (λ (o : Option SessionState). cons_option (option_and_then logout_of o) []) found in
+    more ∙ one_noted (notes_of_lines lines) (logout_of x) notes so_far
+    ∙ ap (take NOTE_LIMIT) (sym (ap (filter_map note_of) (pumped_all k s t c e le none) ∙ filter_map-append note_of lines (notice t c) ∙ ap (λ (ns : List Note). notes_of_lines lines ++ ns) noticed))
 
 -- so the next line is noted
 pub noted_reply : (s : ServerState) (c : ℕ) (line : List ℕ) (r : Reply) (read : Result (Option Command) ErrWord) (x : SessionState) (before notes : List Note) → next_line_for s c ≡ Some line → session c s ≡ Some x → Replies s c line r → read_command line ≡ read → notes ≡ with_note (note_in_reply x read r) before → notes ≡ with_next s c before
 noted_reply s c line r read x before notes next found is reads noted = grind arith
 
 -- where the client isn't open, nothing is
-pub fed_absent : (s s' : ServerState) (c : ℕ) (piece : List ℕ) (notes : List Note) → s' ≡ s → session c s' ≡ None → notes ≡ [] → notes ≡ take NOTE_LIMIT (notes_of_pump (with_input s c piece) c None)
-unfolding lines_executed after_lines
+pub fed_absent : (s s' : ServerState) (c : ℕ) (piece : List ℕ) (notes : List Note) → s' ≡ s → session c s' ≡ None → notes ≡ [] → notes ≡ take NOTE_LIMIT (notes_of_lines (executions_by s (Feed c piece) None))
+unfolding executions_by lines_executed after_lines
 fed_absent s s' c piece notes same absent none =
     let stops : next_line_for s' c ≡ None = ap (option_and_then next_line) absent in
-    let nothing : note_of_notice s' c ≡ None = ap (option_and_then (λ (x : SessionState). if holds_overlong x then logout_of x else None)) absent in
+    let nothing : notice s' c ≡ [] = ap (λ (o : Option SessionState). if option_map_or holds_overlong o false then of_notice s' c ∷ [] else []) absent in
     let as_it_was : with_input s c piece ≡ s' = ap (λ (z : ServerState). with_input z c piece) (sym same) ∙ input_absent s' c piece absent in
     none
-    ∙ sym (ap (λ (z : ServerState). take NOTE_LIMIT (notes_of_pump z c None)) as_it_was
-    ∙ ap (take NOTE_LIMIT) (pumped_all 0 s' s' c refl (omega arith) stops ∙ ap (λ (o : Option Note). cons_option o []) nothing))
+    ∙ sym (ap (λ (z : ServerState). take NOTE_LIMIT (notes_of_lines (executions_until z c None))) as_it_was
+    ∙ ap (λ (xs : List Execution). take NOTE_LIMIT (notes_of_lines xs)) (pumped_all 0 s' s' c refl (omega arith) stops ∙ nothing))
 
-pub fed_noted : (s s' j : ServerState) (c : ℕ) (piece : List ℕ) (o : Outcome) (r : RunningServer) → s' ≡ s → j ≡ with_input s' c piece → r.notes ≡ take NOTE_LIMIT (notes_of_pump j c (refused_after o)) → IsNoted s (Feed c piece) o r
+pub fed_noted : (s s' j : ServerState) (c : ℕ) (piece : List ℕ) (o : Outcome) (r : RunningServer) → s' ≡ s → j ≡ with_input s' c piece → r.notes ≡ take NOTE_LIMIT (notes_of_lines (executions_until j c (refused_after o))) → IsNoted s (Feed c piece) o r
+unfolding executions_by
 fed_noted s s' j c piece o r same fed noted =
-    noted ∙ ap (λ (z : ServerState). take NOTE_LIMIT (notes_of_pump z c (refused_after o))) (fed ∙ ap (λ (z : ServerState). with_input z c piece) same)
+    noted ∙ ap (λ (z : ServerState). take NOTE_LIMIT (notes_of_lines (executions_until z c (refused_after o)))) (fed ∙ ap (λ (z : ServerState). with_input z c piece) same)
 
 pub took_never : (s s' : ServerState) (c n : ℕ) (o : Outcome) (r : RunningServer) → s' ≡ s → may_take (session c s') n ≡ false → r.notes ≡ [] → IsNoted s (Took c n) o r
+unfolding executions_by
 took_never s s' c n o r same never none =
-    none ∙ sym (ap (λ (b : Bool). take NOTE_LIMIT (if b then notes_of_pump (without_output s c n) c (refused_after o) else [])) (ap (λ (z : ServerState). may_take (session c z) n) (sym same) ∙ never))
+    none ∙ sym (ap (λ (b : Bool). take NOTE_LIMIT (notes_of_lines (if b then executions_until (without_output s c n) c (refused_after o) else []))) (ap (λ (z : ServerState). may_take (session c z) n) (sym same) ∙ never))
 
-pub took_noted : (s s' j : ServerState) (c n : ℕ) (o : Outcome) (r : RunningServer) → s' ≡ s → may_take (session c s') n ≡ true → j ≡ without_output s' c n → r.notes ≡ take NOTE_LIMIT (notes_of_pump j c (refused_after o)) → IsNoted s (Took c n) o r
+pub took_noted : (s s' j : ServerState) (c n : ℕ) (o : Outcome) (r : RunningServer) → s' ≡ s → may_take (session c s') n ≡ true → j ≡ without_output s' c n → r.notes ≡ take NOTE_LIMIT (notes_of_lines (executions_until j c (refused_after o))) → IsNoted s (Took c n) o r
+unfolding executions_by
 took_noted s s' j c n o r same may took noted =
     noted
-    ∙ ap (λ (z : ServerState). take NOTE_LIMIT (notes_of_pump z c (refused_after o))) (took ∙ ap (λ (z : ServerState). without_output z c n) same)
-    ∙ sym (ap (λ (b : Bool). take NOTE_LIMIT (if b then notes_of_pump (without_output s c n) c (refused_after o) else [])) (ap (λ (z : ServerState). may_take (session c z) n) (sym same) ∙ may))
+    ∙ ap (λ (z : ServerState). take NOTE_LIMIT (notes_of_lines (executions_until z c (refused_after o)))) (took ∙ ap (λ (z : ServerState). without_output z c n) same)
+    ∙ sym (ap (λ (b : Bool). take NOTE_LIMIT (notes_of_lines (if b then executions_until (without_output s c n) c (refused_after o) else []))) (ap (λ (z : ServerState). may_take (session c z) n) (sym same) ∙ may))
 
 then_more : (o : Option Note) (xs ys : List Note) → cons_option o (xs ++ ys) ≡ cons_option o xs ++ ys
 then_more None xs ys = refl

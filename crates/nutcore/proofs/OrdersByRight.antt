@@ -88,7 +88,7 @@ gives u bytes (of_line s c line) h = elim h [
   | inl set ↦ set_gives u bytes s c line set.name set.value set.id set.by_right set.id_is set.order_is
   | inr command ↦ command_gives u bytes s c line command.name command.value command.id command.by_right command.id_is command.order_is
 ]
-gives u bytes (of_notice c) h = absurd h
+gives u bytes (of_notice s c) h = absurd h
 
 -- one execution
 abbrev Joins : UpsId → Execution → List ServerLine → Type 0
@@ -108,7 +108,7 @@ line_joins u s c line change e =
 
 joins : (u : UpsId) (x : Execution) → Joins u x (given_by_line u x)
 joins u (of_line s c line) = line_joins u s c line (change_by s c (read_command line)) refl
-joins u (of_notice c) = passes u (of_notice c) refl
+joins u (of_notice s c) = passes u (of_notice s c) refl
 
 all_join : (u : UpsId) (xs : List Execution) → AreOrdersByRight u xs (flat_map order_of (flat_map (given_by_line u) xs))
 all_join u [] = none_left

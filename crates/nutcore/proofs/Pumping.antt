@@ -141,6 +141,6 @@ notice_there s c over =
     change_is with_notice c s x found ∙ ap (with_session s) (cond-true _ _ _ long) ∙ sym (change_is notified c s x found)
 
 -- what holds where it is due, and where it isn't, holds after it
-pub of_notice_due : (P : List Execution → ServerState → Type 0) (s : ServerState) (c : ℕ) → (is_overlong s c ≡ true → P (of_notice c ∷ []) (with_session_changed notified c s)) → (is_overlong s c ≡ false → P [] s) → P (notice s c) (after_notice s c)
+pub of_notice_due : (P : List Execution → ServerState → Type 0) (s : ServerState) (c : ℕ) → (is_overlong s c ≡ true → P (of_notice s c ∷ []) (with_session_changed notified c s)) → (is_overlong s c ≡ false → P [] s) → P (notice s c) (after_notice s c)
 of_notice_due P s c due quiet =
-    cond_both (is_overlong s c) (of_notice c ∷ []) [] (λ xs. P xs (after_notice s c)) (λ e. subst (P (of_notice c ∷ [])) (sym (notice_there s c e)) (due e)) (λ e. subst (P []) (sym (no_notice s c e)) (quiet e))
+    cond_both (is_overlong s c) (of_notice s c ∷ []) [] (λ xs. P xs (after_notice s c)) (λ e. subst (P (of_notice s c ∷ [])) (sym (notice_there s c e)) (due e)) (λ e. subst (P []) (sym (no_notice s c e)) (quiet e))

@@ -59,7 +59,7 @@ change_gives u s c line change e = of_upses (λ told ys. Each IsLineToDriver (to
 lines_give : (u : UpsId) (xs : List Execution) → Each IsLineToDriver (flat_map (given_by_line u) xs)
 lines_give u [] = tt
 lines_give u (of_line s c line ∷ xs) = each_join IsLineToDriver (given_by_change u (change_by s c (read_command line))) (flat_map (given_by_line u) xs) (change_gives u s c line (change_by s c (read_command line)) refl) (lines_give u xs)
-lines_give u (of_notice c ∷ xs) = lines_give u xs
+lines_give u (of_notice s c ∷ xs) = lines_give u xs
 
 if_gives : (b : Bool) (told : ServerLine) → IsSpelled told → Each IsLineToDriver (cond b (told ∷ []) [])
 if_gives b told h = cond_both b (told ∷ []) [] (Each IsLineToDriver) (λ e. (is_line told h, tt)) (λ e. tt)

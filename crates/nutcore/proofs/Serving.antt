@@ -1,33 +1,35 @@
 -- What the server's methods do, over plain states.
 use Rattle.std.proofs.Common.{◌≡◌, ℕ, ◌+◌, ◌<◌, ◌≤◌, true, false, List, [], ◌++◌, Option, Some, None, Result, Ok, Err, refl, sym, ◌∙◌, ap, subst, arith, length, get_or, set, take, drop, inl, inr, length-append, ◌∷◌}
-use Rattle.std.proofs.lemmas.Bool.{cases_Bool}
 use Rattle.std.specs.Prelude.{IsTrue, IfOk, OnOk, OnErr, is_err, is_none, option_and_then}
 use Rattle.std.specs.Option.{option_map, option_map_or}
+use Rattle.std.specs.Result.{result_err}
 use denote.Ref.{Bor}
-use Rattle.nutcore.proofs.Common.{Change, Fault, SessionState, ServerState, session, with_session, with_session_changed}
+use Rattle.nutcore.specs.declared.event.Fault.TheVariants.{LineTooLong}
+use Rattle.nutcore.proofs.Common.{Change, SessionState, ServerState, session, with_session, with_session_changed}
 use Rattle.nutcore.specs.Session.{find, without, IdsRise, new_session}
 use Rattle.std.specs.declared.alloc.AllocError.{AllocError}
 use Rattle.nutwords.specs.declared.limits.TheConstants.{LINE_LIMIT}
 use Rattle.nutlisting.specs.Lines.{IsWholeLine}
 use Rattle.nutanswer.specs.View.{Seen, AskerSeen}
-use Rattle.nutanswer.specs.Answer.{answer_to, IsReply, shares_version, text_of_answer, change_of_answer}
+use Rattle.nutanswer.specs.Answer.{Answer, answer_to, IsReply, shares_version, text_of_answer, change_of_answer}
 use Rattle.nutparse.specs.Command.{read_command}
 use Rattle.nuttracking.specs.Tracking.{TrackingState}
 use Rattle.nutcore.specs.Ups.{UpsState}
-use Rattle.nutcore.specs.Reply.{seen, asker, asker_of, reply, text_to, change_by, changed_session, changed_upses, changed_tracking}
-use Rattle.nutcore.specs.Pump.{next_line, next_line_for, answered, after_line, after_lines, pump_stops, held_of, after_all_lines, pumped, after_notice, is_overlong, with_notice, wants_memory, shares_version_read}
+use Rattle.nutcore.specs.Reply.{seen, asker, asker_of, reply, text_to, refusal_by, change_by, changed_session, changed_upses, changed_tracking}
+use Rattle.nutcore.specs.Pump.{next_line, next_line_for, answered, after_line, after_lines, pump_stops, held_of, after_all_lines, pumped, after_notice, is_overlong, notified, wants_memory, shares_version_read}
 use Rattle.nutcore.specs.Step.{offered, may_take}
 use Rattle.nutparse.specs.declared.command.Command.{Command}
 use Rattle.nutparse.specs.declared.err_word.ErrWord.{ErrWord}
+use Rattle.nutparse.specs.ErrWord.{error_line}
 use Rattle.nutanswer.specs.declared.reply.Reply.{Reply}
-use Rattle.nutanswer.specs.declared.reply.Reply.TheVariants.{One, Clients}
+use Rattle.nutanswer.specs.declared.reply.Reply.TheVariants.{Refused, One, Clients}
 use Rattle.nutanswer.specs.declared.reply.Change.TheVariants.{Nothing}
 use Rattle.nutlisting.specs.Items.{text_of, client_listing}
 use Rattle.nutlisting.specs.declared.outbox.TheConstants.{OWED_LIMIT}
-use Rattle.nutcore.specs.Promises.{place, IsAt, PumpGives, refused_overlong, IsLineOrNone, IsShort, Replies, RepliesOrLacks, AnswersEach, text_with, change_in, ListsClients}
+use Rattle.nutcore.specs.Promises.{place, IsAt, PumpGives, IsShort, Replies, RepliesOrLacks, AnswersEach, text_with, change_in, ListsClients}
 use Rattle.nutcore.proofs.Found.{find_id}
-use Rattle.nutcore.proofs.Changed.{change_is, session_put, notice_id}
-use Rattle.nutcore.proofs.Pumping.{after_line_is, is_next, session_after, session_after_id, line_done}
+use Rattle.nutcore.proofs.Changed.{change_is, session_put}
+use Rattle.nutcore.proofs.Pumping.{after_line_is, is_next, session_after, session_after_id, line_done, no_notice, notice_there}
 use Rattle.nutcore.proofs.Places.{at_put, found_at, find_at, put_is, without_at}
 use Rattle.nutcore.proofs.Loops.{after_lines-suc, all_lines_are}
 
@@ -89,17 +91,26 @@ ends_at c i s t x r e at is end = sym (next_end_is t c x (found_in c i s t x e a
 pub line_there : (o : Option (List ℕ)) (end : ℕ) → option_map length o ≡ Some end → (line : List ℕ) × (o ≡ Some line)
 line_there o end h = grind arith
 
-pub no_line_there : (o : Option (List ℕ)) → option_map length o ≡ None → o ≡ None
-no_line_there o h = grind arith
+-- what a refusal says, and that it changes nothing
+refused_line : (s : ServerState) (c : ℕ) (word : ErrWord) (r : Result (Option Command) ErrWord) → refusal_by s c r ≡ Some word → (text_to s c r ≡ error_line word) × (change_by s c r ≡ Nothing)
+refused_line s c word (Err why) e = (cc e, refl)
+refused_line s c word (Ok None) e = cc e
+refused_line s c word (Ok (Some command)) e = of_answer (answer_to (seen s) (asker c s) command) e
+  where
+    of_answer : (a : Result Answer ErrWord) → result_err a ≡ Some word → (text_of_answer a ≡ error_line word) × (change_of_answer a ≡ Nothing)
+    of_answer (Err why) e = (cc e, refl)
+    of_answer (Ok answer) e = cc e
 
 -- what an answer says, and what it changes
 answers_as : (s : ServerState) (c : ℕ) (line : List ℕ) (reply : Reply) (clients : List (List ℕ)) → Replies s c line reply → ListsClients s.sessions reply clients →
     (text_to s c (read_command line) ≡ text_with clients reply) × (change_by s c (read_command line) ≡ change_in reply)
+answers_as s c line (Refused word) clients told lists = refused_line s c word (read_command line) told
 answers_as s c line (Clients name u) clients told lists = (told.1 ∙ ap (λ (addresses : List (List ℕ)). text_of (client_listing name addresses)) (sym lists), told.2)
 answers_as s c line answer clients told lists = (told.1, told.2)
 
 pub change_told : (s : ServerState) (c : ℕ) (line : List ℕ) (reply : Reply) → Replies s c line reply → change_by s c (read_command line) ≡ change_in reply
-change_told s c line reply told = grind arith
+change_told s c line (Refused word) told = (refused_line s c word (read_command line) told).1
+change_told s c line reply told = told.2
 
 pub short_told : (s : ServerState) (c : ℕ) (line : List ℕ) (reply : Reply) → Replies s c line reply → IsShort reply
 short_told s c line reply told = grind arith
@@ -141,11 +152,6 @@ at_line s c i line h next =
     let n = is_next s c line next in
     subst (λ (z : ServerState). IsAt c i z.sessions) (sym (after_line_is s c line n.asking n.found next)) (at_put c i (session_after s c line n.asking) s.sessions h)
 
--- the notice, as the code writes it
-pub notice_is : (s : ServerState) (c i : ℕ) (x y : SessionState) → IsAt c i s.sessions → session c s ≡ Some x → y ≡ with_notice x → let code : ServerState = record s { sessions = set s.sessions i y } in code ≡ after_notice s c
-unfolding after_notice
-notice_is s c i x y h e is = change_set with_notice s c i x y h e (notice_id x) is
-
 -- the loop begins
 pub begins : (s : ServerState) (c : ℕ) → s ≡ after_lines 0 s c
 unfolding after_lines
@@ -155,14 +161,19 @@ begins s c = refl
 pub goes_on : (s t u : ServerState) (c k : ℕ) → t ≡ after_lines k s c → u ≡ after_line t c → u ≡ after_lines (k + 1) s c
 goes_on s t u c k e f = f ∙ ap (λ (z : ServerState). after_line z c) e ∙ sym (after_lines-suc k s c)
 
--- the loop ends: all lines are done, and whether the session's line was too long is what the pump answers
-pub pump_gives : (s t u : ServerState) (c k : ℕ) (r : Result (Unit {0}) Fault) → t ≡ after_lines k s c → k ≤ length (held_of (session c s)) → next_line_for t c ≡ None → u ≡ after_notice t c → r ≡ refused_overlong (is_overlong t c) → PumpGives s c r u
+-- the loop ends: all lines are done, and nothing is left to do
+pub pump_ends : (s t : ServerState) (c k : ℕ) → t ≡ after_lines k s c → k ≤ length (held_of (session c s)) → next_line_for t c ≡ None → is_overlong t c ≡ false → PumpGives s c (Ok tt) t
 unfolding pumped
-pump_gives s t u c k r e le none f told =
+pump_ends s t c k e le none short =
     let all : after_all_lines s c ≡ t = all_lines_are k s c le (subst (λ (z : ServerState). pump_stops z c ≡ true) e (ap is_none none)) ∙ sym e in
-    let over = ap (λ (z : ServerState). is_overlong z c) all in
-    let leaves = f ∙ ap (λ (z : ServerState). after_notice z c) (sym all) in
-    elim (cases_Bool (is_overlong t c)) [ inl long ↦ rw (told, long) (over ∙ long, leaves) | inr short ↦ rw (told, short) (over ∙ short, leaves) ]
+    (ap (λ (z : ServerState). is_overlong z c) all ∙ short, sym (ap (λ (z : ServerState). after_notice z c) all ∙ no_notice t c short))
+
+-- or the session's line is too long
+pub pump_notifies : (s t u : ServerState) (c k : ℕ) → t ≡ after_lines k s c → k ≤ length (held_of (session c s)) → next_line_for t c ≡ None → is_overlong t c ≡ true → u ≡ with_session_changed notified c t → PumpGives s c (Err LineTooLong) u
+unfolding pumped
+pump_notifies s t u c k e le none long f =
+    let all : after_all_lines s c ≡ t = all_lines_are k s c le (subst (λ (z : ServerState). pump_stops z c ≡ true) e (ap is_none none)) ∙ sym e in
+    (ap (λ (z : ServerState). is_overlong z c) all ∙ long, f ∙ sym (ap (λ (z : ServerState). after_notice z c) all ∙ notice_there t c long))
 
 -- memory was refused for a listing
 pub wants_is : (s : ServerState) (c : ℕ) (line : List ℕ) → next_line_for s c ≡ Some line → shares_version_read s c (read_command line) ≡ true → IsTrue (wants_memory s c)
@@ -184,12 +195,12 @@ left_out l n c i xs rise h =
     let lt : place c xs < length xs = omega (arith, h.first, h.within) in
     without_at l n c xs rise lt ∙ ap (λ j. take j xs ++ drop (j + 1) xs) h.first
 
--- the answer of one line at most that changes nothing
-pub replies_text : (s : ServerState) (c : ℕ) (line : List ℕ) (text : Bor (List ℕ)) (r : Result (Option Command) ErrWord) → read_command line ≡ r → shares_version_read s c r ≡ false → text_to s c r ≡ text.now → change_by s c r ≡ Nothing → length text.now ≤ OWED_LIMIT →
-    IsLineOrNone text.now → Replies s c line (One text Nothing)
-replies_text s c line text r e shares is none short one = (ap (shares_version_read s c) e ∙ shares, ap (text_to s c) e ∙ is, ap (change_by s c) e ∙ none, short, one)
+-- the answer to a line without words
+pub replies_nothing : (s : ServerState) (c : ℕ) (line : List ℕ) (text : Bor (List ℕ)) → read_command line ≡ Ok None → text.now ≡ [] → Replies s c line (One text Nothing)
+replies_nothing s c line text e is =
+    (ap (refusal_by s c) e, ap (text_to s c) e ∙ sym is, ap (change_by s c) e, omega (arith, ap (λ (b : List ℕ). length b) is), inr is)
 
--- so is the answer to a command
+-- the answer to a command
 whole_short : (text : List ℕ) → IsWholeLine text → length text ≤ OWED_LIMIT
 whole_short text whole =
     let few : length whole.line ≤ LINE_LIMIT = whole.answer.fits in
@@ -197,9 +208,10 @@ whole_short text whole =
 
 answer_replies : (s : ServerState) (c : ℕ) (line : List ℕ) (command : Command) (r : Result Reply AllocError) → read_command line ≡ Ok (Some command) → IfOk r (IsReply (seen s) (answer_to (seen s) (asker c s) command)) →
     OnErr r (IsTrue (shares_version (answer_to (seen s) (asker c s) command))) → RepliesOrLacks s c line r
+answer_replies s c line command (Ok (Refused word)) e is lacks = ap (refusal_by s c) e ∙ ap result_err is
 answer_replies s c line command (Ok (One text change)) e is lacks =
-    (ap (shares_version_read s c) e ∙ is.one, ap (text_to s c) e ∙ sym is.text, ap (change_by s c) e ∙ sym is.changes, whole_short text.now is.whole_line, inl is.whole_line)
-answer_replies s c line command (Ok answer) e is lacks = (ap (shares_version_read s c) e ∙ ap shares_version is, ap (text_to s c) e ∙ ap text_of_answer is, ap (change_by s c) e ∙ ap change_of_answer is)
+    (ap (refusal_by s c) e ∙ is.granted, ap (text_to s c) e ∙ sym is.text, ap (change_by s c) e ∙ sym is.changes, whole_short text.now is.whole_line, inl is.whole_line)
+answer_replies s c line command (Ok answer) e is lacks = (ap (refusal_by s c) e ∙ ap result_err is, ap (text_to s c) e ∙ ap text_of_answer is, ap (change_by s c) e ∙ ap change_of_answer is)
 answer_replies s c line command (Err refused) e is lacks = ap (shares_version_read s c) e ∙ lacks
 
 pub answers_each : (view : Seen) (who : AskerSeen) (command : Command) (r : Result Reply AllocError) → IfOk r (IsReply view (answer_to view who command)) → OnErr r (IsTrue (shares_version (answer_to view who command))) →

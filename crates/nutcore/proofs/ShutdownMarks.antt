@@ -164,7 +164,7 @@ module _ (u : UpsId) (start : ServerState) where
   reaches : GoesOn Reaches
   reaches = record {
     line = λ before s d line next. with_one before s (after_line s d) (of_line s d line) (line_keeps u s d line next) (line_shuts_down u s d line next);
-    notice = λ before s d. with_one before s (with_session_changed notified d s) (of_notice d) (λ set. by_session u notified s d ∙ set) (λ never. absurd never);
+    notice = λ before s d. with_one before s (with_session_changed notified d s) (of_notice s d) (λ set. by_session u notified s d ∙ set) (λ never. absurd never);
     joins = λ before s d piece. carried before s (with_session_changed (joined piece) d s) (λ set. by_session u (joined piece) s d ∙ set);
     gives = λ before s d n. carried before s (with_session_changed (taken_from n) d s) (λ set. by_session u (taken_from n) s d ∙ set);
     plain = λ before s e m plain. carried before s (after_by s e m) (λ set. by_plain u s e m plain ∙ set);

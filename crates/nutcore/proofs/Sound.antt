@@ -111,7 +111,7 @@ sound_line s c line e h =
 sound_session : (f : SessionState → SessionState) → ((x : SessionState) → IsSoundSession x → IsSoundSession (f x)) → (s : ServerState) (c : ℕ) → IsSound s → IsSound (with_session_changed f c s)
 sound_session f keeps s c h = by_change IsSound f c s (λ x e. sound_with s (f x) (keeps x (each_found IsSoundSession c s.sessions x e h.sessions)) h) (λ e. h)
 
-pub sound_notice : (x : SessionState) → IsSoundSession x → IsSoundSession (with_notice x)
+sound_notice : (x : SessionState) → IsSoundSession x → IsSoundSession (with_notice x)
 sound_notice x h = either_notice IsSoundSession x (record { held = omega arith; ending = λ k. (refl, refl) }) h
 
 pub sound_output : (n : ℕ) (x : SessionState) → IsSoundSession x → IsSoundSession (taken_from n x)

@@ -59,7 +59,7 @@ goes = record {
         taken_up = record { left = rest_after line x.held; is = split; going = λ e. sym (after.held e); stays = λ e. never_both x.ending e n.going };
         keeps = λ h. h;
       };
-  by_notice = λ c x u long kept. record { sent = half_moves false x.owed too_long_notice [] _ refl (λ (h : false ≡ true). cc h); taken_up = half_ends x.ending x.held; keeps = λ h. h };
+  by_notice = λ c s x u long kept. record { sent = half_moves false x.owed too_long_notice [] _ refl (λ (h : false ≡ true). cc h); taken_up = half_ends x.ending x.held; keeps = λ h. h };
   by_input = λ piece x u kept.
       record { sent = half_stays false false x.owed (λ h. h); taken_up = half_moves x.ending x.held (accepted_bytes (Some x) piece) [] _ refl (λ h. (cond-true _ _ _ h, refl)); keeps = λ h. h };
   by_output = λ n x u kept. record {

@@ -51,13 +51,13 @@ pub record IsByRight (s : ServerState) (c : ℕ) (line : List ℕ) (of_ups : Opt
 abbrev pub SetsShutdownByRight : UpsId → Execution → Type 0
 SetsShutdownByRight u (of_line s c line) =
     IsByRight s c line Fsd rights.Fsd (codes "OK" ∷ codes "FSD-SET" ∷ []) u
-SetsShutdownByRight u (of_notice c) = ⊥
+SetsShutdownByRight u (of_notice s c) = ⊥
 
 -- It logs this client in to this UPS by right: its `LOGIN u`, answered `OK`.
 abbrev pub LogsInByRight : ℕ → UpsId → Execution → Type 0
 LogsInByRight c u (of_line s d line) =
     (d ≡ c) × IsByRight s d line Login rights.Login (codes "OK" ∷ []) u
-LogsInByRight c u (of_notice d) = ⊥
+LogsInByRight c u (of_notice s d) = ⊥
 
 -- The forced shutdown of the UPS is set.
 abbrev pub is_shut_down : UpsId → ServerState → Bool
@@ -106,14 +106,14 @@ abbrev pub GivesUsername : ℕ → List ℕ → Execution → Type 0
 GivesUsername c name (of_line s d line) =
     (d ≡ c) × (read_command line ≡ Ok (Some (Username (Some name))))
     × (reply s d line ≡ text_line (codes "OK" ∷ []))
-GivesUsername c name (of_notice d) = ⊥
+GivesUsername c name (of_notice s d) = ⊥
 
 -- The same of a password.
 abbrev pub GivesPassword : ℕ → List ℕ → Execution → Type 0
 GivesPassword c password (of_line s d line) =
     (d ≡ c) × (read_command line ≡ Ok (Some (Password (Some password))))
     × (reply s d line ≡ text_line (codes "OK" ∷ []))
-GivesPassword c password (of_notice d) = ⊥
+GivesPassword c password (of_notice s d) = ⊥
 
 -- The user name and the password with which a line is executed were given by lines of its client,
 -- executed before it.

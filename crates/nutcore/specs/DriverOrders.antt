@@ -45,7 +45,7 @@ given_by_change u _ = []
 -- What an executed line of a client gives it.
 abbrev pub given_by_line : UpsId → Execution → List ServerLine
 given_by_line u (of_line s c line) = given_by_change u (change_by s c (read_command line))
-given_by_line u (of_notice c) = []
+given_by_line u (of_notice s c) = []
 
 -- The moment of a tick: it never goes back.
 abbrev pub moment_of : ServerState → ℕ → ℕ

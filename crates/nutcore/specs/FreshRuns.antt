@@ -89,7 +89,7 @@ IsAnsweredFresh old events outcomes (of_line s c line) =
     (command : Command) (ups : Option (List ℕ)) → read_command line ≡ Ok (Some command)
     → asks_data_of command ≡ Some ups → starts_with nat_eq (reply s c line) (codes "ERR") ≡ false
     → WasFresh old events outcomes s c line ups
-IsAnsweredFresh old events outcomes (of_notice c) = Unit {0}
+IsAnsweredFresh old events outcomes (of_notice s c) = Unit {0}
 
 -- Of every line that a run from a new server executes.
 abbrev pub WhateverIsAnsweredIsFresh : Type 0

@@ -21,7 +21,7 @@ pub data Happening : Type 0 where
 
 abbrev pub happening_of : Execution → Happening
 happening_of (of_line s c line) = line_is_executed c line
-happening_of (of_notice c) = notice_is_sent c
+happening_of (of_notice s c) = notice_is_sent c
 
 abbrev pub happened_in_event : ServerState → Event → Outcome → List Happening
 happened_in_event s (Feed c piece) outcome =

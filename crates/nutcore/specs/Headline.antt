@@ -71,7 +71,8 @@ WhatWasAskedIsExecutedOrHeld =
 abbrev pub IsInPump : ServerState → ℕ → Execution → Type 0
 IsInPump begun c (of_line s d line) =
     (d ≡ c) × (k : ℕ) × (s ≡ after_lines k begun c) × (next_line_for s c ≡ Some line)
-IsInPump begun c (of_notice d) = (d ≡ c) × (is_overlong (after_all_lines begun c) c ≡ true)
+IsInPump begun c (of_notice s d) =
+    (d ≡ c) × (s ≡ after_all_lines begun c) × (is_overlong s c ≡ true)
 
 -- It belongs to this event on this server: to the pump that begins once the bytes have come, or are
 -- taken.

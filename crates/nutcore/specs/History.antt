@@ -15,26 +15,26 @@ use Rattle.nutcore.specs.Pump.{owed_of}
 use Rattle.nutcore.specs.Step.{accepted_bytes, with_input, without_output, may_take, after}
 use Rattle.nutcore.specs.Step.{refused_after}
 
--- What an event executed: a line of a client, on the server as it was at that moment, or the notice
+-- What an event executed, on the server as it was at that moment: a line of a client, or the notice
 -- to a client that its line is too long.
 pub data Execution : Type 0 where
   of_line : (server : ServerState) → (client : ℕ) → (line : List ℕ) → Execution
-  of_notice : (client : ℕ) → Execution
+  of_notice : (server : ServerState) → (client : ℕ) → Execution
 
 -- Whose it is.
 abbrev pub client_of : Execution → ℕ
 client_of (of_line s c line) = c
-client_of (of_notice c) = c
+client_of (of_notice s c) = c
 
 -- The text that was joined to what the client is owed.
 abbrev pub text_of : Execution → List ℕ
 text_of (of_line s c line) = reply s c line
-text_of (of_notice c) = too_long_notice
+text_of (of_notice s c) = too_long_notice
 
 -- The executed line, with its LF.
 abbrev pub line_of : Execution → List ℕ
 line_of (of_line s c line) = with_lf line
-line_of (of_notice c) = []
+line_of (of_notice s c) = []
 
 abbrev pub next_execution : ServerState → ℕ → Option (List ℕ) → List Execution
 next_execution s c None = []
@@ -47,7 +47,7 @@ lines_executed (suc k) s c =
     next_execution s c (next_line_for s c) ++ lines_executed k (after_line s c) c
 
 abbrev pub notice : ServerState → ℕ → List Execution
-notice s c = if is_overlong s c then of_notice c ∷ [] else []
+notice s c = if is_overlong s c then of_notice s c ∷ [] else []
 
 -- What the pump executes.
 unfoldable pub pump_executions : ServerState → ℕ → List Execution

@@ -14,7 +14,7 @@ pub record Limits : Type 0 where
   pub offered : QUEUE_LIMIT ≡ 8192
   pub sessions : SESSION_LIMIT ≡ 64
   pub driver_owed : DRIVER_OWED_LIMIT ≡ 2048
-  pub notes : NOTE_LIMIT ≡ 513
+  pub notes : NOTE_LIMIT ≡ 2048
   pub max_age_least : MAX_AGE_LEAST ≡ 3
   pub max_age_most : MAX_AGE_MOST ≡ 86400
   pub max_age_default : MAX_AGE_DEFAULT ≡ 15

@@ -1,19 +1,15 @@
 -- What the notes of all events of a run say.
-use Rattle.std.specs.Prelude.{◌≡◌, ◌≢◌, ℕ, Bool, true, false, List, [], ◌∷◌, ◌++◌, Option, Some}
-use Rattle.std.specs.Prelude.{None, ◌==◌, if◌then◌else◌}
+use Rattle.std.specs.Prelude.{◌≡◌, ◌≢◌, ℕ, List, [], ◌∷◌, ◌++◌, Option, Some, None, ◌==◌}
+use Rattle.std.specs.Prelude.{if◌then◌else◌}
 use Rattle.std.specs.List.{filter_map}
-use Rattle.std.specs.Option.{option_map, option_map_or, option_and_then}
-use Rattle.nutusers.specs.UpsList.{Ups, place_of, id_at}
+use Rattle.std.specs.Option.{option_map_or, option_and_then}
 use Rattle.nutusers.specs.declared.ups_list.UpsId.{UpsId}
 use Rattle.nutcore.specs.declared.event.Event.{Event}
 use Rattle.nutcore.specs.declared.event.Outcome.{Outcome}
 use Rattle.nutcore.specs.declared.note.DataState.{DataState}
 use Rattle.nutcore.specs.declared.note.DataState.TheVariants.{Lost}
-use Rattle.nutcore.specs.declared.note.Deed.{Deed}
 use Rattle.nutcore.specs.declared.note.Note.{Note}
-use Rattle.nutcore.specs.declared.note.Note.TheVariants.{Data, LoggedOut, Did}
-use Rattle.nutcore.specs.declared.note.Verb.{Verb}
-use Rattle.nutcore.specs.declared.note.Verb.TheVariants.{Login}
+use Rattle.nutcore.specs.declared.note.Note.TheVariants.{Data, LoggedIn, LoggedOut, Did}
 use Rattle.nutcore.specs.Server.{ServerState, session, ups_at}
 use Rattle.nutcore.specs.Step.{after}
 use Rattle.nutcore.specs.Run.{Run}
@@ -45,25 +41,16 @@ data_in u _ = None
 abbrev pub login_at : ℕ → ServerState → Option UpsId
 login_at c s = option_and_then (λ x. x.login) (session c s)
 
--- What a note says of it: a login that was granted, to the UPS of this name in the list, or a
--- logout.
-abbrev pub is_login : Verb → Option (List ℕ) → Bool
-is_login Login None = true
-is_login verb refusal = false
+-- What a note says of it.
+abbrev pub login_in : ℕ → Note → Option (Option UpsId)
+login_in c (LoggedIn u who) = if who.client == c then Some (Some u) else None
+login_in c (LoggedOut u who) = if who.client == c then Some None else None
+login_in c _ = None
 
-abbrev pub ups_called : List Ups → Option (List ℕ) → Option UpsId
-ups_called list name = option_map id_at (option_and_then (λ word. place_of word list) name)
-
-abbrev pub login_in : List Ups → ℕ → Note → Option (Option UpsId)
-login_in list c (LoggedOut u who) = if who.client == c then Some None else None
-login_in list c (Did deed) =
-    if is_login deed.verb deed.refusal
-    then if deed.who.client == c then Some (ups_called list deed.ups) else None else None
-login_in list c _ = None
-
--- What it says of an executed line.
-abbrev pub deed_in : Note → Option Deed
-deed_in (Did deed) = Some deed
+-- What it says of an executed line: a login, another command, or a refusal.
+abbrev pub deed_in : Note → Option Note
+deed_in (LoggedIn u who) = Some (LoggedIn u who)
+deed_in (Did deed) = Some (Did deed)
 deed_in _ = None
 
 -- Over any run, by all that is noted. states: each change of the data of a UPS, and no other. logins:
@@ -76,7 +63,7 @@ pub record TheNotesOfARunAreWhatChanged : Type 0 where
       (data_at u new)
   pub logins : (old new : ServerState) (events : List Event) (outcomes : List Outcome) (c : ℕ)
       → IsSound old → Run old events outcomes new
-      → Leads (login_at c old) (filter_map (login_in old.list c) (notes_along old events outcomes))
+      → Leads (login_at c old) (filter_map (login_in c) (notes_along old events outcomes))
       (login_at c new)
   pub deeds : (old new : ServerState) (events : List Event) (outcomes : List Outcome)
       → IsSound old → Run old events outcomes new

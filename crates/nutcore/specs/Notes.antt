@@ -1,24 +1,22 @@
 -- What is noted of an event, for the journal: names, and never a value or a password.
-use Rattle.std.specs.Prelude.{◌≡◌, ℕ, suc, ◌-◌, ◌==◌, Bool, true, false, List, [], ◌∷◌, ◌++◌}
-use Rattle.std.specs.Prelude.{Option, Some, None, Result, Ok, codes, drop, nat_eq, take, max}
+use Rattle.std.specs.Prelude.{◌≡◌, ℕ, suc, ◌-◌, ◌==◌, Bool, true, false, List, [], ◌∷◌}
+use Rattle.std.specs.Prelude.{Option, Some, None, Result, Ok, codes, take, max}
 use Rattle.std.specs.Prelude.{if◌then◌else◌}
-use Rattle.std.specs.List.{starts_with, filter_map, cons_option}
+use Rattle.std.specs.List.{filter_map, cons_option}
 use Rattle.std.specs.Option.{option_map, option_and_then}
-use Rattle.std.specs.Result.{result_ok}
 use Rattle.std.specs.Str.{bytes_eq}
-use Rattle.nutwords.specs.Reading.{read_name}
 use Rattle.nutdriver.specs.LastLine.{value_of}
 use Rattle.nutusers.specs.declared.ups_list.UpsId.{UpsId}
 use Rattle.nutparse.specs.declared.command.Command.{Command}
 use Rattle.nutparse.specs.declared.command.Command.TheVariants.{Login, Primary, Fsd, SetVar}
-use Rattle.nutparse.specs.declared.command.Command.TheVariants.{InstCmd, Logout}
+use Rattle.nutparse.specs.declared.command.Command.TheVariants.{InstCmd}
 use Rattle.nutparse.specs.declared.err_word.ErrWord.{ErrWord}
 use Rattle.nutanswer.specs.declared.reply.Change.{Change}
 use Rattle.nutanswer.specs.declared.reply.Change.TheVariants as changes
 use Rattle.nutparse.specs.Command.{read_command}
 use Rattle.nutcore.specs.declared.note.Note.{Note}
 use Rattle.nutcore.specs.declared.note.Note.TheVariants.{Data, StatusChanged, LinesRefused}
-use Rattle.nutcore.specs.declared.note.Note.TheVariants.{LoggedOut, Did}
+use Rattle.nutcore.specs.declared.note.Note.TheVariants.{LoggedIn, LoggedOut, Did}
 use Rattle.nutcore.specs.declared.note.DataState.{DataState}
 use Rattle.nutcore.specs.declared.note.DataState.TheVariants as states
 use Rattle.nutcore.specs.declared.note.Look.{Look}
@@ -30,34 +28,16 @@ use Rattle.nutcore.specs.declared.event.Event.{Event}
 use Rattle.nutcore.specs.declared.event.Event.TheVariants.{DriverUp, DriverBytes, DriverDown, Tick}
 use Rattle.nutcore.specs.declared.event.Event.TheVariants.{Feed, Took, Close}
 use Rattle.nutcore.specs.declared.event.Outcome.{Outcome}
-use Rattle.nutwords.specs.SplitLine.{first_line}
 use Rattle.nutanswer.specs.View.{Readiness, not_connected, stale, usable, readiness}
 use Rattle.nutusers.specs.UpsList.{id_at}
 use Rattle.nutcore.specs.Ups.{UpsState}
 use Rattle.nutcore.specs.Session.{SessionState}
 use Rattle.nutcore.specs.Server.{ServerState, session, ups_at}
-use Rattle.nutcore.specs.Step.{with_input, without_output, may_take, refused_after}
-use Rattle.nutcore.specs.Pump.{after_all_lines, holds_overlong}
+use Rattle.nutcore.specs.Step.{refused_after}
 use Rattle.nutcore.specs.Cost.{RunningServer}
 use Rattle.nutcore.specs.Sound.{IsSound}
-use Rattle.nutcore.specs.Reply.{reply, change_by}
-use Rattle.nutcore.specs.History.{Execution, of_line, of_notice, executions_until}
-
--- A line is refused that is answered by ERR and a word.
-abbrev pub is_refusal : List ℕ → Bool
-is_refusal text = starts_with nat_eq text (codes "ERR ")
-
--- That word.
-abbrev pub refusal_in : List ℕ → Option (List ℕ)
-refusal_in text =
-    if is_refusal text
-    then option_and_then (λ word. result_ok (read_name word)) (first_line (drop 4 text)) else None
-
--- A line that is answered so, and changes this, is noted: one that changes nothing only where it is
--- refused.
-abbrev pub is_noted : List ℕ → Change → Bool
-is_noted text changes.Nothing = is_refusal text
-is_noted text _ = true
+use Rattle.nutcore.specs.Reply.{refusal_by, change_by}
+use Rattle.nutcore.specs.History.{Execution, of_line, of_notice, executions_by}
 
 -- Whose session it is.
 abbrev pub who_of : SessionState → Who
@@ -67,48 +47,46 @@ who_of x = record { client = x.id; user = x.username; address = x.address }
 abbrev pub logout_of : SessionState → Option Note
 logout_of x = option_map (λ u. LoggedOut u (who_of x)) x.login
 
--- What the session did by a command that was refused by this word, or granted.
-abbrev pub did : SessionState → Option (List ℕ) → Verb → Option (List ℕ) → Option (List ℕ)
+-- What the session did by a command that was refused by this word, or granted,
+abbrev pub did : SessionState → Option ErrWord → Verb → Option (List ℕ) → Option (List ℕ)
     → Option Note
 did x refusal verb ups name =
     Some (Did (record { who = who_of x; verb = verb; ups = ups; name = name; refusal = refusal }))
 
-abbrev pub note_of_command : SessionState → Option (List ℕ) → Command → Option Note
-note_of_command x refusal (Login ups) = did x refusal verbs.Login ups None
-note_of_command x refusal (Primary ups) = did x refusal verbs.Primary ups None
-note_of_command x refusal (Fsd ups) = did x refusal verbs.Fsd ups None
-note_of_command x refusal (SetVar ups name value) = did x refusal verbs.SetVar ups name
-note_of_command x refusal (InstCmd ups name value) = did x refusal verbs.InstCmd ups name
-note_of_command x refusal Logout = logout_of x
-note_of_command x refusal _ = None
+-- where its line was read as a command of which that is noted.
+abbrev pub deed_of : SessionState → Option ErrWord → Result (Option Command) ErrWord → Option Note
+deed_of x refusal (Ok (Some (Login ups))) = did x refusal verbs.Login ups None
+deed_of x refusal (Ok (Some (Primary ups))) = did x refusal verbs.Primary ups None
+deed_of x refusal (Ok (Some (Fsd ups))) = did x refusal verbs.Fsd ups None
+deed_of x refusal (Ok (Some (SetVar ups name value))) = did x refusal verbs.SetVar ups name
+deed_of x refusal (Ok (Some (InstCmd ups name value))) = did x refusal verbs.InstCmd ups name
+deed_of x refusal _ = None
 
--- What is noted of a line that was read so, and answered so.
-abbrev pub note_read : SessionState → Result (Option Command) ErrWord → List ℕ → Option Note
-note_read x (Ok (Some command)) text = note_of_command x (refusal_in text) command
-note_read x _ text = None
+-- What is noted of a change that the session makes, by a line that was read so,
+abbrev pub note_of_change : SessionState → Result (Option Command) ErrWord → Change → Option Note
+note_of_change x read (changes.Login u) = Some (LoggedIn u (who_of x))
+note_of_change x read changes.Ending = logout_of x
+note_of_change x read (changes.Fsd u) = deed_of x None read
+note_of_change x read (changes.Order u line) = deed_of x None read
+note_of_change x read (changes.Tracked u id line) = deed_of x None read
+note_of_change x read _ = None
 
--- What is noted of an executed line, on the server as it was at that moment.
+-- and of such a line, which is refused by this word, or makes this change.
+abbrev pub note_read : SessionState → Result (Option Command) ErrWord → Option ErrWord → Change
+    → Option Note
+note_read x read (Some word) change = deed_of x (Some word) read
+note_read x read None change = note_of_change x read change
+
+-- What is noted of what was executed, on the server as it was at that moment. By the notice the
+-- session begins to end.
 abbrev pub note_of : Execution → Option Note
 note_of (of_line s c line) =
-    if is_noted (reply s c line) (change_by s c (read_command line))
-    then option_and_then (λ x. note_read x (read_command line) (reply s c line)) (session c s)
-    else None
-note_of (of_notice c) = None
+    let read = read_command line in
+    option_and_then (λ x. note_read x read (refusal_by s c read) (change_by s c read)) (session c s)
+note_of (of_notice s c) = option_and_then logout_of (session c s)
 
--- What is noted where the session's line is too long: the session begins to end.
-abbrev pub note_of_notice : ServerState → ℕ → Option Note
-note_of_notice s c =
-    option_and_then (λ x. if holds_overlong x then logout_of x else None) (session c s)
-
--- What is noted of the lines that are executed, one after another, as far as memory lets it.
 abbrev pub notes_of_lines : List Execution → List Note
 notes_of_lines all = filter_map note_of all
-
-abbrev pub notes_of_pump : ServerState → ℕ → Option ℕ → List Note
-notes_of_pump s c None =
-    notes_of_lines (executions_until s c None)
-    ++ cons_option (note_of_notice (after_all_lines s c) c) []
-notes_of_pump s c (Some k) = notes_of_lines (executions_until s c (Some k))
 
 -- How the data of a UPS are, by whether its driver has reported all that it knows, and by what
 -- clients get of them.
@@ -185,9 +163,8 @@ all_notes old (DriverBytes u piece) m new =
 all_notes old (DriverDown u) m new = notes_between u (look_at u old) (look_at u new)
 all_notes old (Tick seconds) m new =
     tick_notes old.max_age old.moment (max seconds old.moment) 0 old.upses
-all_notes old (Feed c piece) m new = notes_of_pump (with_input old c piece) c m
-all_notes old (Took c n) m new =
-    if may_take (session c old) n then notes_of_pump (without_output old c n) c m else []
+all_notes old (Feed c piece) m new = notes_of_lines (executions_by old (Feed c piece) m)
+all_notes old (Took c n) m new = notes_of_lines (executions_by old (Took c n) m)
 all_notes old (Close c) m new = cons_option (option_and_then logout_of (session c old)) []
 all_notes old _ m new = []
 

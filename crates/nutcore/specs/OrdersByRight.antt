@@ -61,7 +61,7 @@ pub record IsCommandedByRight (u : UpsId) (bytes : List ℕ) (s : ServerState) (
 abbrev pub IsOrderByRight : UpsId → List ℕ → Execution → Type 0
 IsOrderByRight u bytes (of_line s c line) =
     IsSetByRight u bytes s c line ⊎ IsCommandedByRight u bytes s c line
-IsOrderByRight u bytes (of_notice c) = ⊥
+IsOrderByRight u bytes (of_notice s c) = ⊥
 
 -- The orders are exactly those of the executions that are by right, one each, in their order.
 pub data AreOrdersByRight (u : UpsId) : List Execution → List (List ℕ) → Type 0 where

@@ -1,6 +1,6 @@
 -- What the private parts of the server promise one another. A reader of the public contracts needs
 -- none of it.
-use Rattle.std.specs.Prelude.{◌≡◌, ◌<◌, ◌≤◌, ◌-◌, ◌⊎◌, ◌==◌, ℕ, Bool, true, false, if◌then◌else◌}
+use Rattle.std.specs.Prelude.{◌≡◌, ◌<◌, ◌≤◌, ◌-◌, ◌⊎◌, ◌==◌, ℕ, true, false}
 use Rattle.std.specs.Prelude.{List, [], Option, Some, None, Result, Ok, Err, IsTrue, length, drop}
 use Rattle.std.specs.Prelude.{take, map, slice_get}
 use Rattle.std.specs.List.{position_or_len}
@@ -10,7 +10,7 @@ use Rattle.nutcore.specs.declared.event.Fault.TheVariants.{TookTooMuch, NotConne
 use Rattle.nutcore.specs.declared.event.Fault.TheVariants.{LineTooLong, Memory}
 use Rattle.std.specs.declared.alloc.AllocError.{AllocError}
 use Rattle.nutanswer.specs.declared.reply.Reply.{Reply}
-use Rattle.nutanswer.specs.declared.reply.Reply.TheVariants.{One, Many, Clients}
+use Rattle.nutanswer.specs.declared.reply.Reply.TheVariants.{Refused, One, Many, Clients}
 use Rattle.nutanswer.specs.declared.reply.Change.{Change}
 use Rattle.nutanswer.specs.declared.reply.Change.TheVariants.{Nothing}
 use Rattle.nutanswer.specs.Orders.{order}
@@ -24,6 +24,7 @@ use Rattle.nutlisting.specs.Items.{text_of, client_listing}
 use Rattle.nutanswer.specs.View.{Seen, AskerSeen, addresses_at}
 use Rattle.nutparse.specs.declared.command.Command.{Command}
 use Rattle.nutparse.specs.declared.err_word.ErrWord.{ErrWord}
+use Rattle.nutparse.specs.ErrWord.{error_line}
 use Rattle.nutcore.specs.Session.{SessionState}
 use Rattle.nutwords.specs.WholeLines.{unfinished_after, is_too_long}
 use Rattle.nutdriver.specs.declared.report.LineOutcome.{LineOutcome}
@@ -37,16 +38,19 @@ use Rattle.std.specs.Fn.{Once, FnOnceTakesAtMut, FnOnceReturnsAtMut}
 use Rattle.nutcore.specs.Sound.{IsSoundUps}
 use Rattle.nutcore.specs.Calls.{is_connected}
 use Rattle.nutcore.specs.Server.{ServerState, ups_at, with_ups_changed}
-use Rattle.nutcore.specs.Reply.{seen, asker, text_to, change_by, seen_client}
+use Rattle.nutcore.specs.Reply.{seen, asker, text_to, refusal_by, change_by, seen_client}
 use Rattle.nutcore.specs.declared.cost.Cost.{Cost}
 use Rattle.nutcore.specs.History.{owed, of_line}
 use Rattle.nutcore.specs.declared.note.Note.{Note}
 use Rattle.nutcore.specs.declared.note.TheConstants.{NOTE_LIMIT}
 use Rattle.nutcore.specs.declared.note.Look.{Look}
-use Rattle.nutcore.specs.Notes.{is_noted, note_read, note_of, refusal_note, status_note, data_note}
+use Rattle.nutcore.specs.Notes.{deed_of, note_of_change, note_of, refusal_note, status_note}
+use Rattle.nutcore.specs.Notes.{data_note}
 use Rattle.nutcore.specs.Cost.{RunningServer}
 use Rattle.nutcore.specs.Pump.{pumped, after_all_lines, after_lines, is_overlong, wants_memory}
-use Rattle.nutcore.specs.Pump.{shares_version_read, next_line_for}
+use Rattle.nutcore.specs.Pump.{shares_version_read, next_line, next_line_for, holds_overlong}
+use Rattle.nutcore.specs.declared.session.Next.{Next}
+use Rattle.nutcore.specs.declared.session.Next.TheVariants as nexts
 use Rattle.nutwords.specs.declared.limits.TheConstants.{LINE_LIMIT}
 use Rattle.nutwords.specs.Found.{FindsLine, Finds}
 use Rattle.nutwords.specs.declared.cut.Found.{Found}
@@ -102,45 +106,51 @@ PumpGives old c (Err (Memory k)) new =
     IsTrue (wants_memory (after_lines k old c) c) × (new ≡ after_lines k old c)
 PumpGives old c (Err fault) new = ⊥
 
--- whether the session's line was too long
-abbrev pub refused_overlong : Bool → Result (Unit {0}) Fault
-refused_overlong b = if b then Err LineTooLong else Ok tt
+-- the session has a line that may be executed, or too long a line, or nothing yet
+abbrev pub HasNext : SessionState → Next → Type 0
+HasNext x (nexts.Line end) = option_map length (next_line x) ≡ Some end
+HasNext x nexts.Overlong = (next_line x ≡ None) × (holds_overlong x ≡ true)
+HasNext x nexts.Nothing = (next_line x ≡ None) × (holds_overlong x ≡ false)
 
 -- a whole line, or nothing where a line without words is answered
 abbrev pub IsLineOrNone : List ℕ → Type 0
 IsLineOrNone text = IsWholeLine text ⊎ (text ≡ [])
 
--- the answer is that to the line: one line at most, which takes no memory, with what it changes, or
--- the listing
+-- the answer is that to the line: the word of its refusal, or one line at most, with what it
+-- changes, or the listing
 abbrev pub Replies : ServerState → ℕ → List ℕ → Reply → Type 0
+Replies s c line (Refused word) = refusal_by s c (read_command line) ≡ Some word
 Replies s c line (One text change) =
-    (shares_version_read s c (read_command line) ≡ false)
+    (refusal_by s c (read_command line) ≡ None)
     × (text_to s c (read_command line) ≡ text.now) × (change_by s c (read_command line) ≡ change)
     × (length text.now ≤ OWED_LIMIT) × IsLineOrNone text.now
 Replies s c line (Clients name u) =
-    (shares_version_read s c (read_command line) ≡ false)
+    (refusal_by s c (read_command line) ≡ None)
     × (text_to s c (read_command line)
     ≡ text_of (client_listing name (addresses_at u (map seen_client s.sessions))))
     × (change_by s c (read_command line) ≡ Nothing)
 Replies s c line (Many listing) =
-    (shares_version_read s c (read_command line) ≡ true)
+    (refusal_by s c (read_command line) ≡ None)
     × (text_to s c (read_command line) ≡ text_of listing)
     × (change_by s c (read_command line) ≡ Nothing)
 
 -- the text of an answer, where these are the clients of a UPS that it lists
 abbrev pub text_with : List (List ℕ) → Reply → List ℕ
+text_with clients (Refused word) = error_line word
 text_with clients (One text change) = text.now
 text_with clients (Many listing) = text_of listing
 text_with clients (Clients name u) = text_of (client_listing name clients)
 
 -- what it changes
 abbrev pub change_in : Reply → Change
+change_in (Refused word) = Nothing
 change_in (One text change) = change
 change_in (Many listing) = Nothing
 change_in (Clients name u) = Nothing
 
 -- if it is a line, it is a whole one, and may be joined to what is owed
 abbrev pub IsShort : Reply → Type 0
+IsShort (Refused word) = Unit {0}
 IsShort (One text change) = (length text.now ≤ OWED_LIMIT) × IsLineOrNone text.now
 IsShort (Many listing) = Unit {0}
 IsShort (Clients name u) = Unit {0}
@@ -148,6 +158,7 @@ IsShort (Clients name u) = Unit {0}
 -- if it lists the clients of a UPS, these are the addresses of the sessions that are logged in to
 -- it
 abbrev pub ListsClients : List SessionState → Reply → List (List ℕ) → Type 0
+ListsClients sessions (Refused word) clients = Unit {0}
 ListsClients sessions (One text change) clients = Unit {0}
 ListsClients sessions (Many listing) clients = Unit {0}
 ListsClients sessions (Clients name u) clients = clients ≡ addresses_at u (map seen_client sessions)
@@ -270,8 +281,8 @@ cost_beyond kept after = record { rendered = lines (drop kept after); placed = l
 
 -- what is noted of a line of the session that was read and answered so
 abbrev pub note_in_reply : SessionState → Result (Option Command) ErrWord → Reply → Option Note
-note_in_reply x read (One text change) =
-    if is_noted text.now change then note_read x read text.now else None
+note_in_reply x read (Refused word) = deed_of x (Some word) read
+note_in_reply x read (One text change) = note_of_change x read change
 note_in_reply x read (Many listing) = None
 note_in_reply x read (Clients name u) = None
 

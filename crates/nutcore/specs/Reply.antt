@@ -1,5 +1,6 @@
 -- The reply to a line (RFC 9271) on the server of that moment, and its changes.
 use Rattle.std.specs.Prelude.{ℕ, false, List, [], Option, Some, None, Result, Ok, Err, map}
+use Rattle.std.specs.Result.{result_err}
 use Rattle.nutparse.specs.declared.command.Command.{Command}
 use Rattle.nutparse.specs.declared.err_word.ErrWord.{ErrWord}
 use Rattle.nutparse.specs.declared.err_word.ErrWord.TheVariants.{TooLong}
@@ -85,6 +86,12 @@ abbrev pub text_to : ServerState → ℕ → Result (Option Command) ErrWord →
 text_to s c (Err word) = error_line word
 text_to s c (Ok None) = []
 text_to s c (Ok (Some command)) = text_of_answer (answer_to (seen s) (asker c s) command)
+
+-- The word by which it is refused, if it is: also where it doesn't read as a command.
+abbrev pub refusal_by : ServerState → ℕ → Result (Option Command) ErrWord → Option ErrWord
+refusal_by s c (Err word) = Some word
+refusal_by s c (Ok None) = None
+refusal_by s c (Ok (Some command)) = result_err (answer_to (seen s) (asker c s) command)
 
 -- What changes by it: nothing where a line doesn't read as a command, has no words, or is refused.
 abbrev pub change_by : ServerState → ℕ → Result (Option Command) ErrWord → Change

@@ -35,7 +35,7 @@ act_of_change _ = []
 
 abbrev pub act_of : Execution → List Act
 act_of (of_line s c line) = act_of_change (change_by s c (read_command line))
-act_of (of_notice c) = []
+act_of (of_notice s c) = []
 
 -- What an event does to them, in order.
 abbrev pub acts_in_event : ServerState → Event → Outcome → List Act

@@ -1,8 +1,8 @@
 //! One session: what it holds of its client's input, and what it owes.
-ghost use Rattle.std.specs.Prelude.{◌≡◌, ◌≤◌, ◌<◌, ◌-◌, ◌++◌, ℕ, List, length, take, IfOk, true, false, Some, None, [], ◌∷◌, if◌then◌else◌, drop};
+ghost use Rattle.std.specs.Prelude.{◌≡◌, ◌≤◌, ◌<◌, ◌-◌, ◌++◌, ℕ, List, length, take, IfOk, true, Some, None, [], ◌∷◌, if◌then◌else◌, drop};
 ghost use Rattle.std.specs.Option.{option_map};
 ghost use Rattle.nutcore.specs.Session.{new_session, begin_ending, SessionState};
-ghost use Rattle.nutcore.specs.Pump.{next_line, answered, holds_overlong, with_notice};
+ghost use Rattle.nutcore.specs.Pump.{next_line, answered, holds_overlong, notified};
 ghost use Rattle.nutcore.specs.Step.{joined, accepted, taken_from};
 ghost use Rattle.nutlisting.specs.declared.listing.clients.TheConstants.{SESSION_LIMIT};
 ghost use Rattle.std.specs.Borrow.{sem};
@@ -13,25 +13,35 @@ ghost use Rattle.nutlisting.specs.declared.byte_queue.TheConstants.{QUEUE_LIMIT}
 ghost use Rattle.nutwords.specs.declared.limits.TheConstants.{LINE_LIMIT};
 ghost use Rattle.nutcore.specs.Calls.{IsOutboxOf, standing_of};
 ghost use Rattle.nutlisting.specs.Counted.{IsCounted, KeepsCount};
-ghost use Rattle.nutcore.specs.Notes.{logout_of, who_of};
-ghost use Rattle.nutcore.specs.Promises.{IsLineOrNone, IsShort, text_with, change_in, refused_overlong, with_note};
+ghost use Rattle.nutcore.specs.Notes.{deed_of, logout_of, who_of};
+ghost use Rattle.nutcore.specs.declared.note.Note.TheVariants.{LoggedIn};
+ghost use Rattle.nutcore.specs.Promises.{IsLineOrNone, IsShort, text_with, change_in, HasNext, with_note, note_in_reply};
 ghost use Rattle.nutcore.specs.Reply.{asker_of, seen_client, changed_session};
 ghost use Rattle.nutanswer.specs.View.{asker_seen, is_logged_in, addresses_at};
 ghost use Rattle.nutlisting.specs.Owed.{owed};
 
 use crate::HELD_LIMIT;
-use crate::event::Fault;
-use crate::lines::line_end;
-use crate::note::{Note, Notes, Who};
+use crate::lines::{ReadLine, line_end};
+use crate::note::{Deed, Note, Notes, Verb, Who};
 use crate::scratch::Scratch;
 use crate::server::Standing;
 use nutanswer::{Asker, Change, Reply};
 use nutlisting::{ByteQueue, Clients, Outbox};
-use nutparse::ErrWord;
+use nutparse::{Command, ErrWord};
 use nutusers::{Password, UpsId, UserName};
 use nutwords::Address;
 use std::alloc::{AllocError, Global};
 use std::marker::Model;
+
+/// What a session has to be served with.
+pub(crate) enum Next {
+    /// Its next line, which may be executed, and ends there.
+    Line(usize),
+    /// It holds 2,048 bytes without an LF.
+    Overlong,
+    /// Nothing, until bytes come or are taken.
+    Nothing,
+}
 
 /// A client's session.
 #[derive(Drop)]
@@ -119,6 +129,7 @@ impl Session {
     }
 
     /// Notes its logout, where it is logged in.
+    #[inline(never)]
     pub(crate) fn note_logout(&self, notes: &mut Notes)
         ensures { notes.new ≡ with_note (logout_of self.now) notes.old }
     {
@@ -186,14 +197,19 @@ impl Session {
         self.held.fill(piece)
     }
 
-    /// Where its next line ends, if it may be executed.
-    pub(crate) fn next_end(&self) -> Option<usize>
-        ensures { result ≡ option_map length (next_line self.now) }
+    /// What it has to be served with now.
+    pub(crate) fn next(&self) -> Next
+        ensures { HasNext self.now result }
     {
         if self.ending || !self.outbox.is_ready() {
-            return None;
+            return Next::Nothing;
         }
-        line_end(self.waiting())
+        let waiting = self.waiting();
+        match line_end(waiting) {
+            Some(end) => Next::Line(end),
+            None if waiting.len() >= HELD_LIMIT => Next::Overlong,
+            None => Next::Nothing,
+        }
     }
 
     /// Its next line, which ends there.
@@ -227,6 +243,7 @@ impl Session {
             clients,
         } = scratch;
         match reply {
+            Reply::Refused(word) => self.outbox.push(word.line(), renders),
             Reply::One(text, change) => {
                 self.change(change);
                 if !text.is_empty() {
@@ -238,35 +255,17 @@ impl Session {
         }
     }
 
-    /// A session that holds 2,048 bytes without an LF is sent `ERR TOO-LONG`, and begins to end,
-    /// which is noted.
-    ///
-    /// # Errors
-    ///
-    /// `LineTooLong`, where it is sent `ERR TOO-LONG`.
-    pub(crate) fn refuse_overlong(
-        &mut self,
-        renders: &mut u64,
-        notes: &mut Notes,
-    ) -> Result<(), Fault>
-        ensures overlong { result ≡ refused_overlong (holds_overlong self.old) }
-        ensures noticed { self.new ≡ with_notice self.old }
-        ensures noted { notes.new ≡ with_note
-            (if holds_overlong self.old then logout_of self.old else None) notes.old }
+    /// It is sent `ERR TOO-LONG`, and begins to end, which is noted.
+    pub(crate) fn refuse_overlong(&mut self, renders: &mut u64, notes: &mut Notes)
+        requires { holds_overlong self.old ≡ true }
+        ensures notified { self.new ≡ notified self.old }
+        ensures noted { notes.new ≡ with_note (logout_of self.old) notes.old }
         ensures id { self.new.id ≡ self.old.id }
         ensures keeps { KeepsCount self.old.owed renders.old self.new.owed renders.new }
     {
-        if self.ending
-            || !self.outbox.is_ready()
-            || self.waiting().len() < HELD_LIMIT
-            || line_end(self.waiting()).is_some()
-        {
-            return Ok(());
-        }
         self.note_logout(notes);
         self.outbox.push(ErrWord::TooLong.line(), renders);
         self.begin_ending();
-        Err(Fault::LineTooLong)
     }
 
     /// It begins to end: what it holds is dropped, and its login given up.
@@ -292,6 +291,53 @@ impl Session {
             Change::Ending => self.begin_ending(),
             Change::Tracking(on) => self.tracking = on,
         }
+    }
+
+    /// Notes what a line of it does, which was read and is answered so. What makes a note is a call
+    /// of its own, so that no other line pays for its room.
+    pub(crate) fn note(&self, read: &ReadLine<'_>, reply: &Reply<'_>, notes: &mut Notes)
+        ensures { notes.new ≡ with_note (note_in_reply self.now read.now reply.now) notes.old }
+    {
+        match reply {
+            Reply::Refused(word) => self.note_deed(read, Some(*word), notes),
+            Reply::One(_, Change::Login(u)) => self.note_login(*u, notes),
+            Reply::One(_, Change::Ending) => self.note_logout(notes),
+            Reply::One(_, Change::Fsd(_) | Change::Order(_, _) | Change::Tracked(_, _, _)) => {
+                self.note_deed(read, None, notes)
+            }
+            _ => {}
+        }
+    }
+
+    /// Notes its login to the UPS.
+    #[inline(never)]
+    fn note_login(&self, u: UpsId, notes: &mut Notes)
+        ensures { notes.new ≡ with_note (Some (LoggedIn u (who_of self.now))) notes.old }
+    {
+        notes.extend(Some(Note::LoggedIn(u, self.who())));
+    }
+
+    /// Notes a line that was read so, and refused by this word, or granted, where it asked for what
+    /// is noted.
+    #[inline(never)]
+    fn note_deed(&self, read: &ReadLine<'_>, refusal: Option<ErrWord>, notes: &mut Notes)
+        ensures { notes.new ≡ with_note (deed_of self.now refusal read.now) notes.old }
+    {
+        let (verb, ups, name) = match read {
+            Ok(Some(Command::Login(ups))) => (Verb::Login, ups, None),
+            Ok(Some(Command::Primary(ups))) => (Verb::Primary, ups, None),
+            Ok(Some(Command::Fsd(ups))) => (Verb::Fsd, ups, None),
+            Ok(Some(Command::SetVar(ups, name, _))) => (Verb::SetVar, ups, Some(name)),
+            Ok(Some(Command::InstCmd(ups, name, _))) => (Verb::InstCmd, ups, Some(name)),
+            _ => return,
+        };
+        notes.extend(Some(Note::Did(Deed {
+            who: self.who(),
+            verb,
+            ups: ups.read(),
+            name: name.and_then(|name| name.read()),
+            refusal,
+        })))
     }
 
     /// What is offered to the client now: the first 8,192 bytes of what it is owed, or all. Nothing

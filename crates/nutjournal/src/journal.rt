@@ -228,6 +228,11 @@ impl Journal {
                 let driver = &mut self.drivers[u.place as usize];
                 driver.refused = (driver.refused.0.saturating_add(*count), *fault);
             }
+            Note::LoggedIn(u, who) => {
+                let (of, who) = (Of::Client(&who.address), Shown(who));
+                let line = format_args!("{who} logged in");
+                self.log(of, Kind::LoggedIn, name(u), &line);
+            }
             Note::LoggedOut(u, who) => {
                 let (of, who) = (Of::Client(&who.address), Shown(who));
                 let line = format_args!("{who} logged out");
@@ -237,33 +242,38 @@ impl Journal {
         }
     }
 
-    /// Logs what a line of a client did, or counts it. Each command has its name, and what is said
-    /// where it was granted.
+    /// Logs what a line of a client did, or counts it.
     fn log_deed(&mut self, deed: &Deed)
         ensures moment { self.new.moment ≡ self.old.moment }
         ensures tallies { LeadsTo self.old.tallies self.new.tallies }
     {
-        let (command, granted, kind) = match deed.verb {
-            Verb::Login => ("LOGIN", "logged in", Kind::LoggedIn),
-            Verb::Primary => ("PRIMARY", "ordered PRIMARY", Kind::Order),
-            Verb::Fsd => ("FSD", "ordered FSD: forced shutdown", Kind::ForcedShutdown),
-            Verb::SetVar => ("SET VAR", "ordered SET VAR", Kind::Order),
-            Verb::InstCmd => ("INSTCMD", "ordered INSTCMD", Kind::Order),
-        };
-        let kind = match (&deed.refusal, deed.verb) {
-            (None, _) => kind,
-            (_, Verb::Login) => Kind::RefusedLogin,
-            _ => Kind::RefusedOrder,
+        let command = match deed.verb {
+            Verb::Login => "LOGIN",
+            Verb::Primary => "PRIMARY",
+            Verb::Fsd => "FSD",
+            Verb::SetVar => "SET VAR",
+            Verb::InstCmd => "INSTCMD",
         };
         let (of, ups) = (Of::Client(&deed.who.address), deed.ups.as_ref());
         let who = Shown(&deed.who);
         let name = deed.name.as_ref();
         let name = name.map_or(b"".as_slice(), |name| name.as_bytes());
         let (space, name) = (if name.is_empty() { "" } else { " " }, name.escape_ascii());
-        match &deed.refusal {
-            None => self.log(of, kind, ups, &format_args!("{who} {granted}{space}{name}")),
-            Some(word) => {
-                let word = word.as_bytes().escape_ascii();
+        match (deed.refusal, deed.verb) {
+            (None, Verb::Fsd) => {
+                let line = format_args!("{who} ordered {command}: forced shutdown");
+                self.log(of, Kind::ForcedShutdown, ups, &line);
+            }
+            (None, _) => {
+                let line = format_args!("{who} ordered {command}{space}{name}");
+                self.log(of, Kind::Order, ups, &line);
+            }
+            (Some(word), verb) => {
+                let kind = match verb {
+                    Verb::Login => Kind::RefusedLogin,
+                    _ => Kind::RefusedOrder,
+                };
+                let word = word.spelling().escape_ascii();
                 let line = format_args!("{who} was refused {command}{space}{name}: {word}");
                 self.log(of, kind, ups, &line);
             }

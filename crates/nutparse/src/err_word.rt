@@ -50,7 +50,7 @@ pub enum ErrWord {
 pub type Checked<T> = Result<T, ErrWord>;
 
 impl ErrWord {
-    ghost use Rattle.nutparse.specs.ErrWord.{error_line};
+    ghost use Rattle.nutparse.specs.ErrWord.{error_line, spelling_of};
 
     /// The line of the refusal, with its LF: at most 2,048 bytes.
     pub fn line(self) -> &'static [u8]
@@ -78,5 +78,13 @@ impl ErrWord {
             ErrWord::UnknownCommand => b"ERR UNKNOWN-COMMAND\n",
             ErrWord::InvalidValue => b"ERR INVALID-VALUE\n",
         }
+    }
+
+    /// The word after `ERR`.
+    pub fn spelling(self) -> &'static [u8]
+        ensures { result.now ≡ spelling_of self }
+    {
+        let line = self.line();
+        &line[4..line.len() - 1]
     }
 }

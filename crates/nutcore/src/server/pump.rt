@@ -4,7 +4,7 @@ ghost use Rattle.std.specs.Option.{option_map};
 ghost use Rattle.nutcore.specs.Server.{session, changed_at};
 ghost use Rattle.nutcore.specs.Pump.{next_line_for, after_line, held_of, wants_memory};
 ghost use Rattle.nutcore.specs.History.{owed, executions_until};
-ghost use Rattle.nutcore.specs.Notes.{notes_of_pump};
+ghost use Rattle.nutcore.specs.Notes.{notes_of_lines};
 ghost use Rattle.nutcore.specs.Ups.{with_fsd, with_order, UpsState};
 ghost use Rattle.nutcore.specs.Calls.{done};
 ghost use Rattle.nutcore.specs.Step.{offered, refused_after};
@@ -19,8 +19,7 @@ ghost use Rattle.nutcore.specs.declared.note.TheConstants.{NOTE_LIMIT};
 use super::Server;
 use super::view::{ServerPeers, reply_to};
 use crate::event::{ClientId, Fault};
-use crate::note::add_line;
-use crate::session::Session;
+use crate::session::{Next, Session};
 use crate::ups::Ups;
 use nutanswer::{Change, Reply, View};
 use nutlisting::Clients;
@@ -58,7 +57,7 @@ impl Server {
         let session = &self.sessions[place];
         let read = Command::read(session.next_line(end));
         let reply = reply_to(&view, session.asker(), &read, &mut self.reply_line)?;
-        add_line(&mut self.notes, session, &read, &reply);
+        session.note(&read, &reply, &mut self.notes);
         let (upses, tracking) = (&mut self.upses, &mut self.tracking);
         let clients = &mut self.scratch.clients;
         carry_out(&reply, upses, tracking, &self.sessions, clients);
@@ -75,19 +74,28 @@ impl Server {
         requires unnoted { self.old.notes ≡ [] }
         ensures gives { PumpGives self.old.state c result self.new.state }
         ensures notes { self.new.notes
-            ≡ take NOTE_LIMIT (notes_of_pump self.old.state c (refused_after (done result))) }
+            ≡ take NOTE_LIMIT (notes_of_lines
+            (executions_until self.old.state c (refused_after (done result)))) }
         ensures keeps { KeepsCost c self.old self.new }
         ensures at { IsAt c place self.new.state.sessions }
     {
         let mut done = 0;
-        while let Some(end) = self.sessions[place].next_end() {
-            if self.execute(c, place, end).is_err() {
-                return Err(Fault::Memory(done));
+        loop {
+            match self.sessions[place].next() {
+                Next::Line(end) => {
+                    if self.execute(c, place, end).is_err() {
+                        return Err(Fault::Memory(done));
+                    }
+                    done += 1;
+                }
+                Next::Overlong => {
+                    let session = &mut self.sessions[place];
+                    session.refuse_overlong(&mut self.scratch.renders, &mut self.notes);
+                    return Err(Fault::LineTooLong);
+                }
+                Next::Nothing => return Ok(()),
             }
-            done += 1;
         }
-        let session = &mut self.sessions[place];
-        session.refuse_overlong(&mut self.scratch.renders, &mut self.notes)
     }
 
     /// Executes the session's lines, and counts as placed what is offered then after so many bytes,
@@ -99,7 +107,8 @@ impl Server {
         requires counted { IsCounted kept (owed c self.old.state) self.old.cost.rendered }
         ensures gives { PumpGives self.old.state c result self.new.state }
         ensures notes { self.new.notes
-            ≡ take NOTE_LIMIT (notes_of_pump self.old.state c (refused_after (done result))) }
+            ≡ take NOTE_LIMIT (notes_of_lines
+            (executions_until self.old.state c (refused_after (done result)))) }
         ensures within { kept ≤ length (offered (session c self.new.state)) }
         ensures cost { self.new.cost ≡ cost_beyond kept (offered (session c self.new.state)) }
     {
@@ -135,7 +144,7 @@ fn carry_out(
             }
             _ => {}
         },
-        Reply::Many(_) => {}
+        Reply::Refused(_) | Reply::Many(_) => {}
         Reply::Clients(_, u) => list_clients(sessions, *u, clients),
     }
 }

@@ -55,7 +55,7 @@ pub(super) fn reply_to<'a>(
     ensures { AnswersEach view.now (asker_seen asker.entry) read.now result }
 {
     match read {
-        Err(word) => Ok(Reply::One(word.line(), Change::Nothing)),
+        Err(word) => Ok(Reply::Refused(*word)),
         Ok(command) => match command {
             None => Ok(Reply::One(b"", Change::Nothing)),
             Some(command) => answer(view, asker, command, lent),

@@ -4,7 +4,7 @@ use Rattle.nutanswer.specs.View.{Seen, asker_seen}
 use Rattle.nutanswer.specs.declared.reply.Change.TheVariants.{Ending}
 use Rattle.nutanswer.specs.Answer.{answer_to, help_text}
 use Rattle.nutanswer.specs.Promises.{GivesReply}
-use Rattle.nutanswer.proofs.Carried.{carried, given, given_seen, given_listing, ups_listed, own, own_line}
+use Rattle.nutanswer.proofs.Carried.{given, given_seen, given_listing, ups_listed, own, own_line}
 use Rattle.nutanswer.proofs.answers.answer.Goals as goal
 use Rattle.nutanswer.proofs.answers.answer.Goals.{in-Username, in-Password, in-Login, in-Logout, in-Primary, in-Fsd, in-SetVar, in-InstCmd, in-SetTracking, in-GetVar, in-GetType, in-GetDesc, in-GetCmdDesc, in-GetUpsDesc, in-GetNumLogins, in-GetNumAttach, in-GetTracking, in-GetProgress, in-ListClient, in-Help, in-Ver, in-StartTls, in-NetVer, in-Ok, in-Err}
 
@@ -51,7 +51,7 @@ returns-clause-ok g c =
     ] in
     elim c.match-row.branch [
       | in-Ok w ↦ rw w.result-is (rw w.in-Ok.is at row)
-      | in-Err w ↦ rw w.result-is (carried s _ w.refused.result (w.refused.ensures _ (rw w.in-Err.is at row)))
+      | in-Err w ↦ rw w.result-is (rw w.in-Err.is at row)
     ]
 
 pub returns-in-ListUps-clause-ok : goal.returns-in-ListUps-clause-ok

@@ -24,5 +24,6 @@ returns c =
       text = told ∙ ap (λ id. line_of (ok_words id)) (sym c.in-Some.is);
       changes = ap (λ (line : List ℕ). order c.args.u line (Some c.in-Some.id)) owed ∙ ap (order c.args.u front) (sym c.in-Some.is);
       one = refl;
+      granted = refl;
       whole_line = subst (λ (line : List ℕ). IsWholeLine line) (sym told) (answer_whole c.in-Some.id);
     }

@@ -1,5 +1,6 @@
 use Rattle.std.proofs.Common.{Err, ◌∷◌, ◌∙◌, ap, sym}
 use Rattle.std.specs.Prelude.{codes}
+use Rattle.std.specs.Result.{result_err}
 use Rattle.std.proofs.lemmas.Result.{err_from_is_err_and}
 use Rattle.nutlisting.specs.Types.{type_words}
 use Rattle.nutanswer.specs.Answer.{in_one_line, shares_version, text_of_answer, change_of_answer}
@@ -17,6 +18,7 @@ returns g c =
       text = c.type_line_into.ensures.text ∙ ap text_of_answer (sym row);
       changes = ap change_of_answer (sym row);
       one = ap shares_version row;
+      granted = ap result_err row;
       whole_line = c.type_line_into.ensures.whole;
     }
 

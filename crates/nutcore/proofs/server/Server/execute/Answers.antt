@@ -92,9 +92,9 @@ returns c =
           at.next at.told c.carry_out.ensures.lists made here (c.answer.ensures.answered line next);
       err = tt;
       memory = tt;
-      noted = noted_reply s c.args.c line reply c.read-read.result c.index-session.result.now c.args.self.now.notes c.add_line.new.notes at.next
+      noted = noted_reply s c.args.c line reply c.read-read.result c.index-session.result.now c.args.self.now.notes c.note.new.notes at.next
           (found_in c.args.c c.args.place v s c.index-session.result.now (state_is c.self.view_is) c.requires.at c.index-session.ensures) at.told (sym c.read-read.ensures)
-          (c.add_line.ensures ∙ ap (with_note (note_in_reply c.index-session.result.now c.read-read.result reply)) (ap (λ (r : RunningServer). r.notes) c.self.view_is));
+          (c.note.ensures ∙ ap (with_note (note_in_reply c.index-session.result.now c.read-read.result reply)) (ap (λ (r : RunningServer). r.notes) c.self.view_is));
       unnoted = tt;
       keeps = subst (λ (z : RunningServer). KeepsCount (owed c.args.c z.state) z.cost.rendered (owed c.args.c after) renders) c.self.view_is
           (cost_kept t c.args.c c.args.place x c.answer.new.self _ _ here.at here.found c.answer.ensures.id c.answer.ensures.keeps);
