@@ -9,11 +9,12 @@ mod ups;
 use crate::driver::Driver;
 use crate::server::Server;
 use nutcommand::{Said, hold_standard_streams, words_of};
+use nutversion::VERSION;
 use std::io::ErrorKind;
 use std::os::unix::fs::FileTypeExt;
 use std::os::unix::net::{UnixListener, UnixStream};
-use std::time::{Duration, Instant};
 use std::process::ExitCode;
+use std::time::{Duration, Instant};
 use std::{fs, io, thread};
 
 /// What is printed for help, or where the words aren't one path.
@@ -27,13 +28,17 @@ const PAUSE: u64 = 100;
 
 fn main(rt: HostRuntime) -> ExitCode {
     hold_standard_streams(&rt);
-    match words_of(&rt, "demodriver: a word is not UTF-8", "demodriver: no memory") {
+    match words_of(
+        &rt,
+        "demodriver: a word is not UTF-8",
+        "demodriver: no memory",
+    ) {
         Ok(words) => obey(&rt, &words),
         Err(fault) => refuse(&rt, fault),
     }
 }
 
-/// Prints the help, or simulates the UPS at the path, which is the only word.
+/// Prints the help or the version, or simulates the UPS at the path, which is the only word.
 fn obey(rt: &HostRuntime, words: &[String]) -> ExitCode {
     let [_, word] = words else {
         return refuse(rt, USAGE);
@@ -41,6 +46,10 @@ fn obey(rt: &HostRuntime, words: &[String]) -> ExitCode {
     match word.as_str() {
         "-h" | "--help" => {
             let _ = println!(rt; "{USAGE}");
+            ExitCode::SUCCESS
+        }
+        "-V" | "--version" => {
+            let _ = println!(rt; "demodriver {VERSION}");
             ExitCode::SUCCESS
         }
         option if option.starts_with('-') => refuse(rt, USAGE),
