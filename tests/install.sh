@@ -83,5 +83,5 @@ grep -q "usr/bin/upsc isn't of this package" "$folder/said" && ok
 [[ $(files) == "$usr/bin/upsc" ]] && ok
 in_root uninstall
 [[ $(cat "$usr/bin/upsc") == NUT ]] && ok
-echo "install: $checks of 21 checks"
-[[ $checks == 21 ]]
+echo "install: $checks of 24 checks"
+[[ $checks == 24 ]]
