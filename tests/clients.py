@@ -285,7 +285,10 @@ def more_after_a_reply():
 
 
 def servers_that_take_less():
-    """It is a fault."""
+    """It is a fault. An order whose line isn't taken whole isn't given."""
+    lines = b'USERNAME "admin"\nPASSWORD "s3 cret"\nSET VAR su ups.delay "30"\n'
+    room = len(lines) - 1
+    yield Row(SET, b"OK\nOK\n", lines[:room], fault=WRITE, why=PIPE.replace("3493", "3494"), narrow={"SEND_ROOM": str(room)})
     for room in range(len(ASKED)):
         yield Row(LIST, LISTED, ASKED[:room], fault=WRITE, why=PIPE, narrow={"STEP": "1", "SEND_ROOM": str(room)})
 
