@@ -28,7 +28,7 @@ LIST = $(ROOT)/$(MINE)/installed
 
 # Proves and builds: a program that isn't proved isn't built. It stands as crates/NAME/out/NAME then.
 all:
-	python3 tests/build.py $(PROGRAMS) demodriver
+	python3 tools/build.py $(PROGRAMS) demodriver
 
 # The same programs for ARM64, over the libraries that are built: crates/NAME/out/NAME.arm64.
 arm64:

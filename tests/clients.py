@@ -5,6 +5,7 @@ however little the server or the output takes (narrow.c), and where the server s
 import concurrent.futures
 import contextlib
 import os
+import re
 import shlex
 import signal
 import socket
@@ -15,7 +16,7 @@ import tty
 from typing import NamedTuple
 
 import serving
-from replaying import Bench, built, plain, sections
+from replaying import HERE, Bench, built, plain, sections, text_of
 
 PROGRAMS = {os.path.basename(program): program for program in built("upsc", "upsrw", "upscmd")}
 BENCH = Bench("clients", PROGRAMS["upsc"])
@@ -24,6 +25,12 @@ LED = BENCH.file("led", b"")
 
 READ, WRITE, EARLY, BAD = "read failed", "write failed", "reply ended early", "bad reply"
 ARGUMENT = "bad argument"
+# Why, as the second line of a fault says it. Names are looked up as this address, and connections are led away from it.
+SERVER = "127.0.0.1:3493"
+SENT_AWAY, CLOSED = f"{SERVER}: sent away: the server is full", f"{SERVER}: the server closed the connection"
+NO_REPLY, NO_ANSWER = f"{SERVER}: no reply of a UPS server came", f"{SERVER}: no answer in 5 seconds"
+RESET, PIPE = f"{SERVER}: Connection reset by peer", f"{SERVER}: Broken pipe"
+LOOK = "the order may have been given: look before you try again"
 VALUE, ITEMS = 512, 65_536  # the longest value and listing
 ENDS, FAILS, STAYS = "the server ends", "its connection is reset", "it waits for more"
 PAUSES = "it waits, once the client was stopped and went on"
@@ -37,13 +44,14 @@ ID = "1bd31808-cb49-4aec-9d75-d056e6f018d2"
 
 
 class Row(NamedTuple):
-    """The words, what the server sends at once, what it is sent, and what is printed, or the fault."""
+    """The words, what the server sends at once, what it is sent, and what is printed, or the fault and why it came."""
 
     words: tuple
     reply: bytes
     sent: bytes
     printed: bytes = b""
     fault: str = ""
+    why: str = ""
     ending: str = ENDS
     narrow: dict = {}
     closed: tuple = ()
@@ -103,11 +111,16 @@ def start(words, narrow, closed=(), stdout=subprocess.PIPE):
     return subprocess.Popen(serving.closing(closed, [PROGRAMS[program], *rest]), env={**os.environ, **more}, stdin=subprocess.DEVNULL, stdout=stdout, stderr=subprocess.PIPE, pipesize=1 << 20)
 
 
-def check_end(words, child, status, fault):
-    """The program ends by this status, and reports this fault alone."""
+def reported(words, *lines):
+    """The lines that are there, after the program's name."""
+    return "".join(f"{words[0]}: {line}\n" for line in lines if line).encode()
+
+
+def check_end(words, child, status, fault, why):
+    """The program ends by this status, and reports only this fault, and why it came."""
     printed, faults = child.communicate(timeout=60)
     got = (printed or b"", faults, child.returncode)
-    assert got == (b"", f"{words[0]}: {fault}\n".encode(), status), f"{words}: {got}"
+    assert got == (b"", reported(words, fault, why), status), f"{words}: {got}"
 
 
 def meet(row, peer=PEER):
@@ -126,8 +139,8 @@ def meet(row, peer=PEER):
 
 def wanted(row):
     """What its client is to have sent and printed, its fault, and its status."""
-    faults, status = (f"{row.words[0]}: {row.fault}\n".encode(), 1) if row.fault else (b"", 0)
-    return row.sent, b"" if 1 in row.closed else row.printed, b"" if 2 in row.closed else faults, status
+    faults = b"" if 2 in row.closed else reported(row.words, row.fault, row.why)
+    return row.sent, b"" if 1 in row.closed else row.printed, faults, 1 if row.fault else 0
 
 
 def check(rows):
@@ -144,10 +157,10 @@ def check(rows):
 
 
 def rows(title, ending=ENDS):
-    """The rows of scripts/clients.rows below this title: WORDS|REPLY|SENT|PRINTED|FAULT, `$` for an LF."""
+    """The rows of scripts/clients.rows below this title: WORDS|REPLY|SENT|PRINTED|FAULT|WHY, `$` for an LF."""
     for row in sections("scripts/clients.rows")[title]:
-        words, *texts, fault = f"{row}||||".split("|")[:5]
-        yield Row(tuple(shlex.split(words)), *(plain(text).replace("$", "\n").encode() for text in texts), fault, ending)
+        words, *texts, fault, why = f"{row}|||||".split("|")[:6]
+        yield Row(tuple(shlex.split(words)), *(plain(text).replace("$", "\n").encode() for text in texts), fault, why, ending)
 
 
 def asked_for():
@@ -178,10 +191,10 @@ def values():
 
 def longest_listings():
     """One of as many items as a client reads, and one with one more."""
-    for count, fault in [(ITEMS, ""), (ITEMS + 1, BAD)]:
+    for count, fault, why in [(ITEMS, "", ""), (ITEMS + 1, BAD, NO_REPLY)]:
         items = b"".join(b'VAR su v%d ""\n' % number for number in range(count))
         printed = b"" if fault else b"".join(b"v%d: \n" % number for number in range(count))
-        yield Row(LIST, b"BEGIN LIST VAR su\n" + items + b"END LIST VAR su\n", ASKED, printed, fault)
+        yield Row(LIST, b"BEGIN LIST VAR su\n" + items + b"END LIST VAR su\n", ASKED, printed, fault, why)
 
 
 def check_led(rows, narrow):
@@ -205,16 +218,28 @@ REFUSING = "127.0.0.2"
 TWO_ADDRESSES = [("su", ["look up localhost", f"connect {REFUSING}:3493", "connect 127.0.0.1:3493"])]
 
 USER = ("-u", "u", "-p", "p", "su")
-UNLAWFUL = [("upsc", ""), ("upsc", "su@ho_st"), ("upsc", "su@host:65536"), ("upsc", b"su\xff"), ("upscmd", *USER, "load/off"),
-            *(("upsc", "--tracked", text, "su") for text in (ID[:-1], ID.replace("-", ""), "{" + ID + "}")),
-            *(("upsrw", "-s", setting, *USER) for setting in ("a", "a=" + "v" * (VALUE + 1)))]  # fmt: skip
+# Words, by what the wrong one has to be.
+UNLAWFUL = {
+    "UPS has to be ups[@host[:port]], with a host of letters, digits, . and -":
+        [("upsc", ups) for ups in ("", "su@", "bad name", "su@ho_st", "su@::1", "su@host:65536")] + [("upscmd", "-l", "su@a b"), ("upsrw", "su@host:0")],
+    "HOST has to be host[:port], with a host of letters, digits, . and -": [("upsc", "-l", "ho_st"), ("upsc", "-L", "host:x")],
+    "VAR has to be 1 to 64 letters, digits, . - _": [("upsc", "su", "a/b")],
+    "CMD has to be 1 to 64 letters, digits, . - _": [("upscmd", *USER, "load/off")],
+    "ID has to be one that --track printed": [("upsc", "--tracked", text, "su") for text in (ID[:-1], ID.replace("-", ""), "{" + ID + "}")],
+    "VAR=VALUE has to be a name, = and a value of at most 512 bytes": [("upsrw", "-s", setting, *USER) for setting in ("a", "a=" + "v" * (VALUE + 1))],
+    "VALUE has to be at most 512 bytes, none of them a control character": [("upscmd", *USER, "a", value) for value in ("\n", "v" * (VALUE + 1))],
+    "USER has to be 1 to 64 bytes, none of them a control character": [("upscmd", "-u", user, "-p", "p", "su", "a") for user in ("", "u" * 65)],
+    "PASS has to be 1 to 256 bytes, none of them a control character": [("upsrw", "-s", "a=b", "-u", "u", "-p", word, "su") for word in ("", "\x1b[31m")],
+    "a word is not UTF-8": [("upsc", b"su\xff")],
+}  # fmt: skip
 
 
-def check_unlawful(rows):
+def check_unlawful(wrong):
     """Each of these words is a bad argument, and no server is looked for."""
     BENCH.file("led", b"")
-    for words in rows:
-        check_end(words, start(words, {"LEAD_TO": "1"}), 2, ARGUMENT)
+    rows = [(words, rule) for rule, every in wrong.items() for words in every]
+    for words, rule in rows:
+        check_end(words, start(words, {"LEAD_TO": "1"}), 2, ARGUMENT, rule)
         assert os.path.getsize(LED) == 0, f"{words}: a server was looked for"
     return f"{len(rows)} rows"
 
@@ -241,8 +266,8 @@ def other_words():
 def cut_replies():
     """Nothing is printed."""
     for count in range(len(LISTED)):
-        yield Row(LIST, LISTED[:count], ASKED, fault=EARLY)
-        yield Row(LIST, LISTED[:count], ASKED, fault=READ, ending=FAILS)
+        yield Row(LIST, LISTED[:count], ASKED, fault=EARLY, why=CLOSED if count else SENT_AWAY)
+        yield Row(LIST, LISTED[:count], ASKED, fault=READ, why=RESET, ending=FAILS)
 
 
 def bad_replies():
@@ -260,9 +285,12 @@ def more_after_a_reply():
 
 
 def servers_that_take_less():
-    """It is a fault."""
+    """It is a fault. An order whose line isn't taken whole isn't given."""
+    lines = b'USERNAME "admin"\nPASSWORD "s3 cret"\nSET VAR su ups.delay "30"\n'
+    room = len(lines) - 1
+    yield Row(SET, b"OK\nOK\n", lines[:room], fault=WRITE, why=PIPE.replace("3493", "3494"), narrow={"SEND_ROOM": str(room)})
     for room in range(len(ASKED)):
-        yield Row(LIST, LISTED, ASKED[:room], fault=WRITE, narrow={"STEP": "1", "SEND_ROOM": str(room)})
+        yield Row(LIST, LISTED, ASKED[:room], fault=WRITE, why=PIPE, narrow={"STEP": "1", "SEND_ROOM": str(room)})
 
 
 def outputs_that_take_less():
@@ -270,14 +298,18 @@ def outputs_that_take_less():
     for room in range(len(PRINTED)):
         yield Row(LIST, LISTED, ASKED, PRINTED[:room], fault=WRITE, narrow={"STEP": "1", "WRITE_ROOM": str(room)})
     for row in asked_for():
-        yield row._replace(printed=b"", fault=WRITE, narrow={"WRITE_ROOM": "0"})
+        why = LOOK if row.words[0] != "upsc" and "-u" in row.words else ""
+        yield row._replace(printed=b"", fault=WRITE, why=why, narrow={"WRITE_ROOM": "0"})
     # A listing without items prints nothing, which fits.
     yield Row(LIST, b"BEGIN LIST VAR su\nEND LIST VAR su\n", ASKED, narrow={"WRITE_ROOM": "0"})
 
 
+DENIED = "the user or the password is wrong, or the user may not do this"
+
+
 def closed_streams():
     """What would be printed goes nowhere, and not to the server."""
-    refused = Row(SET, b"OK\nERR ACCESS-DENIED\n", b'USERNAME "admin"\nPASSWORD "s3 cret"\n', fault="server answered ERR ACCESS-DENIED")
+    refused = Row(SET, b"OK\nERR ACCESS-DENIED\n", b'USERNAME "admin"\nPASSWORD "s3 cret"\n', fault="server answered ERR ACCESS-DENIED", why=DENIED)
     listed = Row(("upscmd", "-l", "su"), b"BEGIN LIST CMD su\nCMD su a\nEND LIST CMD su\n", b"LIST CMD su\n", b"a\n")
     for row in Row(LIST, LISTED, ASKED, PRINTED), refused, listed:
         yield from (row._replace(closed=streams) for streams in serving.CLOSED)
@@ -325,11 +357,25 @@ def check_waits(rows):
     return f"{len(rows)} rows"
 
 
+def check_full_output(words):
+    """The system says why it takes no output."""
+    with open("/dev/full", "wb") as full:
+        child = start(words, {"LEAD_TO": str(PEER.port)}, stdout=full)
+        assert PEER.meet(LISTED, ENDS, child) == ASKED
+        check_end(words, child, 1, WRITE, "standard output: No space left on device")
+
+
 def check_unreached(programs):
-    """A port that refuses; and a listener without room for one more, where the system answers no connection, and each client
-    gives up."""
+    """A port that refuses; a host that isn't found; and a listener without room for one more, where the system answers no
+    connection, and each client gives up."""
+    connect = "cannot connect"
     for words in programs:
-        check_end(words, start(words, {"LEAD_TO": "1"}), 1, "cannot connect")
+        check_end(words, start(words, {"LEAD_TO": "1"}), 1, connect, f"{words_server(words)}: Connection refused")
+    nowhere = "no-such-host.invalid"
+    child = subprocess.Popen([PROGRAMS["upsc"], f"su@{nowhere}"], stdout=subprocess.PIPE, stderr=subprocess.PIPE)
+    printed, faults = child.communicate(timeout=60)
+    begun = reported(("upsc",), connect) + f"upsc: {nowhere}: failed to lookup address information".encode()
+    assert (printed, child.returncode, faults.startswith(begun), faults.count(b"\n")) == (b"", 1, True, 2), faults
     listener = socket.socket()
     listener.bind(("127.0.0.1", 0))
     listener.listen(0)
@@ -343,9 +389,30 @@ def check_unreached(programs):
         began = time.monotonic()
         children = [start(words, {"LEAD_TO": str(port)}) for words in programs]
         for words, child in zip(programs, children):
-            check_end(words, child, 1, "cannot connect")
+            check_end(words, child, 1, connect, f"{words_server(words)}: no answer in 5 seconds")
             assert is_waited(began), f"{words}: after {time.monotonic() - began:.1f} s"
     return f"{len(programs)} rows"
+
+
+def words_server(words):
+    """The address of the server that the words name."""
+    return SERVER.replace("3493", "3494") if words == SET else SERVER
+
+
+# What each word of a refusal means.
+
+
+def check_meanings():
+    """Each word that our server refuses by has a meaning."""
+    path = f"{HERE}/../crates/nutparse/src/err_word.rt"
+    words = set(re.findall(r'b"ERR ([A-Z-]+)\\n",$', text_of(path), re.M)) - {"ALREADY-LOGGED-IN"}
+    for word in words:
+        row = Row(LIST, f"ERR {word}\n".encode(), ASKED, fault=f"server answered ERR {word}")
+        sent, printed, faults, status = meet(row)
+        first, _, why = faults.decode().partition("\n")
+        assert (sent, printed, first, status) == (ASKED, b"", f"upsc: {row.fault}", 1), (row, faults)
+        assert why.startswith("upsc: the ") and "RFC" not in why and why.count("\n") == 1, (word, why)
+    return f"{len(words)} words"
 
 
 def main():
@@ -355,6 +422,8 @@ def main():
     BENCH.case("an address that refuses isn't the last", check_led, TWO_ADDRESSES, {"REFUSING": REFUSING})
     BENCH.case("unlawful words are bad arguments", check_unlawful, UNLAWFUL)
     BENCH.case("other words and the help", other_words)
+    BENCH.case("each word of a refusal has a meaning", check_meanings)
+    BENCH.case("a full output", check_full_output, LIST)
     BENCH.case("nothing is sent after a refusal", check, rows("a reply that ends the job"))
     BENCH.case("a terminal is sent no control character", check_terminal, SHOWN)
     BENCH.case("clients that are stopped go on", check, [Row(LIST, LISTED, ASKED, PRINTED, ending=PAUSES)])

@@ -82,6 +82,18 @@ kill "$demo"
 wait "$demo" 2>/dev/null || true
 [[ -S $folder/driver ]] || fails 'a socket is left'
 drives second
-[[ $(timeout 30 "${driver[@]}" 2>&1) == *AddrInUse* ]] || fails 'a socket that is taken'
+# What can't be done is said in a line, by the path and the system's reason. Words that aren't one path have status 2.
+answers() {
+    local status=0 said
+    said=$(timeout 30 crates/demodriver/out/demodriver "${@:3}" 2>&1) || status=$?
+    [[ $said == "$1" && $status == "$2" ]] || fails "demodriver ${*:3}: $said [$status]"
+    checks=$((checks + 1))
+}
+answers "demodriver: ${driver[1]}: Address already in use" 1 "${driver[1]}"
+answers 'demodriver: /none/x: No such file or directory' 1 /none/x
+answers 'usage: demodriver SOCKET' 0 --help
+answers 'usage: demodriver SOCKET' 2
+answers 'usage: demodriver SOCKET' 2 --nope
+answers 'usage: demodriver SOCKET' 2 "${driver[1]}" more
 ((failed == 0)) && echo "demo: ok: $checks checks"
 exit "$failed"

@@ -68,6 +68,7 @@ def manual_faults():
         unknown = set(re.findall(r'^\.B ".*: server answered ERR ([A-Z-]+)"$', text_of(page), re.M)) - words
         unknown |= set(re.findall(r'^\.B "(cause .*)"$', text_of(page), re.M)) - causes
         yield from (f"{page}: no source says {it}" for it in unknown)
+    yield from priority_faults(text_of("man/upsd.8"))
     for command in ["groff -man -ww -z", "mandoc -Tlint"]:
         formatter, *words = command.split()
         if shutil.which(formatter):
@@ -75,6 +76,19 @@ def manual_faults():
             yield from (f"{formatter}: {line}" for line in ran.stdout.splitlines())
         else:
             print(f"pages: skipped: {formatter} isn't there")
+
+
+def priority_faults(page):
+    """The list of --priorities names each kind of a line below its priority; those below the last one aren't named."""
+    numbers = dict(re.findall(r"^pub const ([A-Z]+): u8 = (\d);$", text_of("crates/nutjournal/src/log_buffer.rt"), re.M))
+    kinds = {text: numbers[it] for text, it in re.findall(r'^    \("(.*)", ([A-Z]+), [A-Z_]+\),$', text_of("crates/nutjournal/src/tally.rt"), re.M)}
+    listed = {number: re.split(r";\s+", " ".join(it.split())) for number, it in re.findall(r"^<(\d)>: ([^.]*)\.$", page, re.M)}
+    if not kinds or sorted(listed) != sorted(numbers.values()) or listed[max(listed)] != ["all else"]:
+        yield "man/upsd.8: no list of --priorities, or the sources have none"
+    for text, number in kinds.items():
+        at = [it for it, texts in listed.items() if text in texts]
+        if at != [number] * (number != max(listed)):
+            yield f"man/upsd.8: {text} has priority {number} by the sources"
 
 
 # What a page names.

@@ -8,7 +8,7 @@ import subprocess
 
 from replaying import HERE, Bench, built, each
 
-PROGRAMS = built("upsd", "upsc", "upsrw", "upscmd", "demodriver")[:4]
+PROGRAMS = built("upsd", "upsc", "upsrw", "upscmd", "demodriver")
 BENCH = Bench("readme", PROGRAMS[0])
 os.chdir(f"{HERE}/..")
 

@@ -105,9 +105,11 @@ def replay_in_turn(script, files):
 # Clients.
 
 def client_in_turn(program, want, *words):
-    """Each request of the client refused in turn: it prints all, or reports a fault and prints nothing."""
-    fault = f"{os.path.basename(program)}: no memory\n".encode()
-    return in_turn([program, *words], want, lambda got: "no memory" if got == (1, b"", fault) else None)
+    """Each request of the client refused in turn: it prints all, or reports a fault and prints nothing. An order may be given by then."""
+    name = os.path.basename(program)
+    fault, given = f"{name}: no memory\n", f"{name}: the order may have been given: look before you try again\n"
+    faults = {fault.encode(), (fault + given * ("-u" in words)).encode()}
+    return in_turn([program, *words], want, lambda got: "no memory" if got[:2] == (1, b"") and got[2] in faults else None)
 
 
 def client_cases(folder):

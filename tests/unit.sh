@@ -13,39 +13,12 @@ cd "$folder"
 
 checks=0
 ok() { checks=$((checks + 1)); }
-cat >driver.py <<'PYTHON'
-import socketserver, sys, time
-
-class Driver(socketserver.BaseRequestHandler):
-    def handle(self):
-        time.sleep(1)
-        if sys.argv[1] == "good":
-            self.request.sendall(b'SETINFO ups.status "OB LB"\nSETINFO battery.charge "9.5"\nSETINFO ups.id "a b"\nSETINFO ups.good "7"\nDUMPDONE\nDATAOK\n')
-        while self.request.recv(100):
-            pass
-
-socketserver.ThreadingUnixStreamServer(sys.argv[1], Driver).serve_forever()
-PYTHON
-cat >odd.py <<'PYTHON'
-import socket, sys
-
-# A server whose UPS has a quote in its name, and which may never end its last answer.
-ANSWERS = {b"LIST UPS": b'BEGIN LIST UPS\nUPS "a\\"b" x\nEND LIST UPS\n', b"LIST VAR": b'BEGIN LIST VAR\nVAR a b.c "5"\nEND LIST VAR\n',
-           b"GET NUML": b"NUMLOGINS a 2" + b"\n" * (sys.argv[1] == "short")}
-listener = socket.create_server(("127.0.0.1", 0))
-print(listener.getsockname()[1], flush=True)
-client = listener.accept()[0]
-while line := client.recv(100):
-    client.sendall(ANSWERS[line[:8]])
-    while line.startswith(b"GET") and sys.argv[1] == "endless":
-        client.sendall(b"x" * 1000)
-PYTHON
 for kind in short endless; do
-    python3 odd.py $kind >$kind.port 2>/dev/null &
+    python3 "$top/tests/unit_peers.py" $kind >$kind.port 2>/dev/null &
     running+=("$!")
 done
 for ups in good stale; do
-    python3 driver.py $ups &
+    python3 "$top/tests/unit_peers.py" $ups &
     running+=("$!")
 done
 until [[ -S good && -S stale ]]; do sleep 0.05; done

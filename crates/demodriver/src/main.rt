@@ -8,37 +8,77 @@ mod ups;
 
 use crate::driver::Driver;
 use crate::server::Server;
-use nutcommand::hold_standard_streams;
+use nutcommand::{Said, hold_standard_streams, words_of};
+use nutversion::VERSION;
 use std::io::ErrorKind;
 use std::os::unix::fs::FileTypeExt;
 use std::os::unix::net::{UnixListener, UnixStream};
+use std::process::ExitCode;
 use std::time::{Duration, Instant};
-use std::{env, fs, io, thread};
+use std::{fs, io, thread};
 
-/// What is printed without the one word.
+/// What is printed for help, or where the words aren't one path.
 const USAGE: &str = "usage: demodriver SOCKET";
+
+/// The status of a fault of the words.
+const WORD_FAULT: u8 = 2;
 
 /// How long the driver sleeps after it looked at each server, in milliseconds.
 const PAUSE: u64 = 100;
 
-fn main(rt: HostRuntime) -> io::Result<()> {
+fn main(rt: HostRuntime) -> ExitCode {
     hold_standard_streams(&rt);
-    let words = env::args(&rt)?.collect::<Vec<String>>(rt.alloc())?;
-    let Some(path) = socket_in(&words) else {
-        println!(rt; "{USAGE}")?;
-        return Ok(());
-    };
-    let listener = listen(&rt, path)?;
-    println!(rt; "demodriver: listening on {path}")?;
-    serve(&rt, &listener)
+    match words_of(
+        &rt,
+        "demodriver: a word is not UTF-8",
+        "demodriver: no memory",
+    ) {
+        Ok(words) => obey(&rt, &words),
+        Err(fault) => refuse(&rt, fault),
+    }
 }
 
-/// The path of the socket, where it is the only word, and no option.
-fn socket_in(words: &[String]) -> Option<&str> {
-    let [_, path] = words else {
-        return None;
+/// Prints the help or the version, or simulates the UPS at the path, which is the only word.
+fn obey(rt: &HostRuntime, words: &[String]) -> ExitCode {
+    let [_, word] = words else {
+        return refuse(rt, USAGE);
     };
-    (!path.starts_with('-')).then_some(path.as_str())
+    match word.as_str() {
+        "-h" | "--help" => {
+            let _ = println!(rt; "{USAGE}");
+            ExitCode::SUCCESS
+        }
+        "-V" | "--version" => {
+            let _ = println!(rt; "demodriver {VERSION}");
+            ExitCode::SUCCESS
+        }
+        option if option.starts_with('-') => refuse(rt, USAGE),
+        path => run(rt, path),
+    }
+}
+
+/// Prints why the words are refused.
+fn refuse(rt: &HostRuntime, why: &str) -> ExitCode {
+    let _ = eprintln!(rt; "{why}");
+    ExitCode::from(WORD_FAULT)
+}
+
+/// Simulates the UPS, and prints why it can't go on.
+fn run(rt: &HostRuntime, path: &str) -> ExitCode {
+    match simulate(rt, path) {
+        Ok(()) => ExitCode::SUCCESS,
+        Err(error) => {
+            let _ = eprintln!(rt; "demodriver: {path}: {}", Said(error));
+            ExitCode::FAILURE
+        }
+    }
+}
+
+/// Listens at this path, and serves who connects.
+fn simulate(rt: &HostRuntime, path: &str) -> io::Result<()> {
+    let listener = listen(rt, path)?;
+    println!(rt; "demodriver: listening on {path}")?;
+    serve(rt, &listener)
 }
 
 /// Listens at this path, in place of a driver that was killed and left its socket there.

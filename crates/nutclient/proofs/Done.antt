@@ -60,11 +60,11 @@ module _ {R W O E : Type 0} (rem : R → Option (List ℕ)) (rf : R → ℕ) (co
 
   status_most : (outcome : Result (Unit {0}) ClientFault) → RunGives rem rf con wf oc of requests form is_terminal [] reader writer out outcome new after sent then → EndsBy ec ef program outcome err status told → status ≤ 1
   status_most (Ok done) g e = omega (arith, e.0)
-  status_most (Err fault) g e = omega (arith, fault_status fault g e.0)
+  status_most (Err fault) g e = omega (arith, fault_status fault g e.1.0)
 
   is_done : (outcome : Result (Unit {0}) ClientFault) → RunGives rem rf con wf oc of requests form is_terminal [] reader writer out outcome new after sent then → EndsBy ec ef program outcome err status told → status ≡ 0
       → IsDone rem rf con wf oc of requests form is_terminal reader writer out after sent then
-  is_done (Err fault) g e zero = absurd (omega (arith, fault_status fault g e.0, zero))
+  is_done (Err fault) g e zero = absurd (omega (arith, fault_status fault g e.1.0, zero))
   is_done (Ok done) g e zero =
       let came : List ℕ = g.1.0 in
       let replies : last_reply requests came ≡ Whole g.0 new = ap (last_reply requests) (sym (append-nil came)) ∙ g.1.5 [] ∙ ap (Whole g.0) (append-nil new) in

@@ -26,14 +26,26 @@ name_of Upscmd = codes "upscmd"
 abbrev pub fault_line : Program → ClientFault → List ℕ
 fault_line program fault = name_of program ++ (codes ": " ++ (fault_text fault ++ 10 ∷ []))
 
--- By what came of it: where it is done, the status is 0, and nothing is reported; at a fault the
--- status is the fault's, and the fault's line is sent, whether or not all of it is taken.
+-- The line that says why, after the program's name, where there is something to say.
+abbrev pub why_line : Program → List ℕ → List ℕ
+why_line program [] = []
+why_line program (b ∷ why) = name_of program ++ (codes ": " ++ (b ∷ why ++ 10 ∷ []))
+
+-- The status is the fault's, and the fault's line is sent, and the one that says why, whether or not
+-- all of it is taken.
+abbrev pub Reports : {E : Type 0} → (E → Option (List ℕ)) → (E → ℕ) → Program → ClientFault
+    → List ℕ → E → ℕ → E → Type 0
+Reports contents failures program fault why err status after =
+    (status ≡ status_of fault) × (sent : Result (Unit {0}) Failed)
+    × SendGives contents failures (fault_line program fault ++ why_line program why) err sent after
+
+-- By what came of it: where it is done, the status is 0, and nothing is reported; a fault is
+-- reported, and why it came.
 abbrev pub EndsBy : {E : Type 0} → (E → Option (List ℕ)) → (E → ℕ) → Program
     → Result (Unit {0}) ClientFault → E → ℕ → E → Type 0
 EndsBy contents failures program (Ok done) err status after = (status ≡ 0) × (after ≡ err)
 EndsBy contents failures program (Err fault) err status after =
-    (status ≡ status_of fault) × (sent : Result (Unit {0}) Failed)
-    × SendGives contents failures (fault_line program fault) err sent after
+    (why : List ℕ) × Reports contents failures program fault why err status after
 
 -- A job that is done: the writer took the line of each request, once and in their order; what came
 -- is a whole reply to each; and the output took the text of the last one's items.

@@ -4,4 +4,5 @@ pub mod Printed
 pub mod Target
 pub mod Job
 pub mod Ending
+pub mod Clues
 pub mod Start

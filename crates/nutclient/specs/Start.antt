@@ -1,19 +1,12 @@
 -- With which status a program ends, by its command line.
-use Rattle.std.specs.Prelude.{◌≡◌, ◌≢◌, ◌≤◌, ℕ, None, Result, Ok, Err, unwrap_or}
+use Rattle.std.specs.Prelude.{◌≡◌, ◌≢◌, ◌≤◌, ℕ, None, unwrap_or}
 use Rattle.clap.specs.Words.{kind_of}
 use Rattle.clap.specs.declared.error.Error.{Error}
 use Rattle.clap.specs.declared.parser.matches.ArgMatches.{ArgMatches}
 use Rattle.nutcommand.specs.Refusal.{refusal_status}
-use Rattle.nutrequest.specs.Fault.{status_of}
-use Rattle.nutrequest.specs.declared.faults.ClientFault.{ClientFault}
 use Rattle.nutclient.specs.Job.{job_of}
 use Rattle.nutclient.specs.declared.given.Given.{Given}
 use Rattle.nutclient.specs.declared.limits.TheConstants.{WORD_FAULT}
-
--- The status that the program ended with, or that of the fault that it met.
-abbrev pub ended : Result ℕ ClientFault → ℕ
-ended (Ok status) = status
-ended (Err fault) = status_of fault
 
 -- By what was found in the words: 2 where one of them isn't lawful, and nowhere else.
 abbrev pub EndsAsAsked : (ArgMatches → Given → Type 0) → ArgMatches → ℕ → Type 0

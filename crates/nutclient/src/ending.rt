@@ -1,24 +1,28 @@
-//! How a program that meets a fault ends: the line that reports it, and the status.
-ghost use Rattle.std.specs.Prelude.{◌≡◌, Err};
-ghost use Rattle.nutclient.specs.Ending.{fault_line, EndsBy};
+//! How a program that meets a fault ends: the lines that report it, and the status.
+ghost use Rattle.std.specs.Prelude.{◌≡◌, ◌++◌, ◌≤◌, Err, length};
+ghost use Rattle.nutclient.specs.Ending.{fault_line, why_line, Reports};
 
 use crate::Program;
+use crate::clues::Why;
 use nutio::{Sink, send};
 use nutrequest::ClientFault;
 use nutwords::Line;
 
-/// Reports a fault, and gives the status that the program ends with. A line that isn't taken can't
-/// be reported either.
-pub(crate) fn report<E: Sink>(err: &mut E, program: Program, fault: &ClientFault) -> u8
-    ensures { EndsBy E.contents E.failures program (Err fault.now) err.old result err.new }
+/// Reports a fault and why it came, and gives the status that the program ends with. A line that
+/// isn't taken can't be reported either.
+pub(crate) fn report<E: Sink>(err: &mut E, program: Program, fault: &ClientFault, why: &Why) -> u8
+    ensures { Reports E.contents E.failures program fault.now why.now.bytes err.old result err.new }
 {
-    let _ = send(err, &fault_line(program, fault));
+    let mut lines = fault_line(program, fault);
+    push_why(&mut lines, program, why.as_str());
+    let _ = send(err, &lines);
     fault.status()
 }
 
 /// The line that reports a fault, after the program's name.
 fn fault_line(program: Program, fault: &ClientFault) -> Line
-    ensures { result.items ≡ fault_line program fault.now }
+    ensures line { result.items ≡ fault_line program fault.now }
+    ensures short { length result.items ≤ 256 }
 {
     let mut line = Line::new();
     line.try_extend_from_slice(program.name().as_bytes())
@@ -27,4 +31,21 @@ fn fault_line(program: Program, fault: &ClientFault) -> Line
     fault.push_text(&mut line);
     line.push(b'\n');
     line
+}
+
+/// Appends the line that says why, after the program's name, if there is something to say.
+fn push_why(lines: &mut Line, program: Program, why: &str)
+    requires lines { length lines.old.items ≤ 256 }
+    requires why { length why.now ≤ 512 }
+    ensures { lines.new.items ≡ lines.old.items ++ why_line program why.now }
+{
+    if why.is_empty() {
+        return;
+    }
+    lines
+        .try_extend_from_slice(program.name().as_bytes())
+        .unwrap();
+    lines.try_extend_from_slice(b": ").unwrap();
+    lines.try_extend_from_slice(why.as_bytes()).unwrap();
+    lines.push(b'\n');
 }

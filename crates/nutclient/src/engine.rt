@@ -7,6 +7,7 @@ ghost use Rattle.nutclient.specs.Requests.{RequestsGive};
 ghost use Rattle.nutclient.specs.Printed.{printed, RunGives, Answers};
 ghost use Rattle.nutclient.specs.Ending.{EndsBy, IsDone};
 
+use crate::clues::Clues;
 use crate::ending::report;
 use crate::printed::print;
 use crate::{Job, Program};
@@ -15,8 +16,8 @@ use nutrequest::{ClientFault, Session, ask};
 use std::alloc::Global;
 
 /// Does the job over a new session with these two ends: what a client program does once it is
-/// connected. It prints on `out`, which may be a terminal, and reports a fault on `err`. Gives the
-/// exit status, and the session that it leaves.
+/// connected. It prints on `out`, which may be a terminal, and reports a fault on `err`, with what
+/// the ends noted of it. Gives the exit status, and the session that it leaves.
 pub fn do_job<R: Source, W: Sink, O: Sink, E: Sink>(
     alloc: Global,
     reader: R,
@@ -26,6 +27,7 @@ pub fn do_job<R: Source, W: Sink, O: Sink, E: Sink>(
     is_terminal: bool,
     program: Program,
     job: &Job,
+    clues: &Clues<'_>,
 ) -> (u8, Session<R, W>)
     // What was sent, what came and what was printed, and by that the status and what is reported.
     ensures gives { (outcome : Result (Unit {0}) ClientFault)
@@ -42,7 +44,7 @@ pub fn do_job<R: Source, W: Sink, O: Sink, E: Sink>(
     let mut session = Session::new(alloc, reader, writer);
     match run(&mut session, out, is_terminal, job) {
         Ok(()) => (0, session),
-        Err(fault) => (report(err, program, &fault), session),
+        Err(fault) => (report(err, program, &fault, &clues.why(&fault)), session),
     }
 }
 

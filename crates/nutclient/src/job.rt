@@ -1,12 +1,13 @@
 //! What a program does at the server.
-ghost use Rattle.std.specs.Prelude.{◌≡◌, ◌≤◌, ◌∷◌, [], IfSome, length, option_map};
+ghost use Rattle.std.specs.Prelude.{◌≡◌, ◌≤◌, ◌∷◌, [], IfOk, length, option_map};
+ghost use Rattle.std.specs.Result.{result_ok};
 ghost use Rattle.nutwords.specs.Reading.{read_name, read_value};
 ghost use Rattle.nuttracking.specs.Id.{read_id};
 ghost use Rattle.nutclient.specs.Target.{both, lawful, ups_place_of};
 ghost use Rattle.nutclient.specs.Job.{parts_of, variable_of, listing_of, server_or_local, upses_of, word_of, login_of, setting_of, value_of, ordered, set_request, command_request, set_order, command_order, tracked_of, job_of};
 
 use crate::limits::REQUEST_LIMIT;
-use crate::{Form, Given, PASSWORD_LIMIT, Sender, Target, USER_LIMIT};
+use crate::{Form, Given, PASSWORD_LIMIT, Part, Sender, Target, USER_LIMIT};
 use arrayvec::ArrayVec;
 use nutrequest::{Query, Request};
 use nuttracking::read_id;
@@ -28,44 +29,42 @@ type Order = (Target, Request);
 type UpsPlace = (UpsName, Target);
 
 impl Job {
-    /// Reads what is asked for: nothing where a word isn't lawful.
-    pub fn read(given: &Given<'_>) -> Option<Job>
-        ensures { option_map parts_of result ≡ job_of given.now }
+    /// Reads what is asked for, or which word isn't lawful.
+    pub fn read(given: &Given<'_>) -> Result<Job, Part>
+        ensures { option_map parts_of (result_ok result) ≡ job_of given.now }
     {
         match given {
             Given::Variables(ups) => {
-                let (ups, target) = Target::read(ups)?;
-                Some(single(target, Request::List(Query::Var(ups)), Form::Colon))
+                let (ups, target) = place(ups)?;
+                Ok(single(target, Request::List(Query::Var(ups)), Form::Colon))
             }
             Given::Variable { ups, name } => variable_job(ups, name),
             Given::Upses(server) => upses_job(*server, Form::Name),
             Given::Descriptions(server) => upses_job(*server, Form::Colon),
             Given::Clients(ups) => {
-                let (ups, target) = Target::read(ups)?;
-                Some(single(target, Request::List(Query::Client(ups)), Form::Name))
+                let (ups, target) = place(ups)?;
+                Ok(single(target, Request::List(Query::Client(ups)), Form::Name))
             }
             Given::Attached(ups) => {
-                let (ups, target) = Target::read(ups)?;
-                Some(single(target, Request::GetNumAttach(ups), Form::Value))
+                let (ups, target) = place(ups)?;
+                Ok(single(target, Request::GetNumAttach(ups), Form::Value))
             }
             Given::Tracked { ups, id } => tracked_job(ups, id),
             Given::Writable(ups) => {
-                let (ups, target) = Target::read(ups)?;
-                Some(single(target, Request::List(Query::Rw(ups)), Form::Equals))
+                let (ups, target) = place(ups)?;
+                Ok(single(target, Request::List(Query::Rw(ups)), Form::Equals))
             }
             Given::Commands(ups) => {
-                let (ups, target) = Target::read(ups)?;
-                Some(single(target, Request::List(Query::Cmd(ups)), Form::Name))
+                let (ups, target) = place(ups)?;
+                Ok(single(target, Request::List(Query::Cmd(ups)), Form::Name))
             }
-            Given::Set { ups, setting, by } => {
-                ordered(by, set_order(by.track, Target::read(ups), setting))
-            }
+            Given::Set { ups, setting, by } => { ordered(by, set_order(by.track, ups, setting)) }
             Given::Command {
                 ups,
                 name,
                 value,
                 by,
-            } => ordered(by, command_order(by.track, Target::read(ups), name, *value)),
+            } => ordered(by, command_order(by.track, ups, name, *value)),
         }
     }
 }
@@ -83,45 +82,59 @@ fn single(target: Target, request: Request, form: Form) -> Job
     }
 }
 
+/// A UPS, and its server.
+fn place(text: &str) -> Result<UpsPlace, Part>
+    ensures { result_ok result ≡ ups_place_of text.now }
+{
+    Target::read(text).ok_or(Part::Ups)
+}
+
+/// The name of a variable or a command.
+fn name_of(text: &str, part: Part) -> Result<Name, Part>
+    ensures { result_ok result ≡ lawful (read_name text.now) }
+{
+    Name::read(text.as_bytes()).map_err(|_| part)
+}
+
 /// The value of a variable.
-fn variable_job(ups: &str, name: &str) -> Option<Job>
-    ensures { option_map parts_of result
+fn variable_job(ups: &str, name: &str) -> Result<Job, Part>
+    ensures { option_map parts_of (result_ok result)
         ≡ variable_of (ups_place_of ups.now) (lawful (read_name name.now)) }
 {
-    let (ups, target) = Target::read(ups)?;
-    let name = Name::read(name.as_bytes()).ok()?;
-    Some(single(target, Request::GetVar(ups, name), Form::Value))
+    let (ups, target) = place(ups)?;
+    let name = name_of(name, Part::Variable)?;
+    Ok(single(target, Request::GetVar(ups, name), Form::Value))
 }
 
 /// How far the order of an id has come, by the server of a UPS.
-fn tracked_job(ups: &str, id: &str) -> Option<Job>
-    ensures { option_map parts_of result ≡ tracked_of (ups_place_of ups.now) (read_id id.now) }
+fn tracked_job(ups: &str, id: &str) -> Result<Job, Part>
+    ensures { option_map parts_of (result_ok result) ≡ tracked_of (ups_place_of ups.now) (read_id id.now) }
 {
-    let (_, target) = Target::read(ups)?;
-    let id = read_id(id.as_bytes())?;
-    Some(single(target, Request::GetTracking(id), Form::Value))
+    let (_, target) = place(ups)?;
+    let id = read_id(id.as_bytes()).ok_or(Part::Id)?;
+    Ok(single(target, Request::GetTracking(id), Form::Value))
 }
 
 /// The UPSs of a server, which is this host where none is named.
-fn upses_job(server: Option<&str>, form: Form) -> Option<Job>
-    ensures { option_map parts_of result
+fn upses_job(server: Option<&str>, form: Form) -> Result<Job, Part>
+    ensures { option_map parts_of (result_ok result)
         ≡ upses_of form (server_or_local server.entry) }
 {
     let target = match server {
-        Some(text) => Target::host(text)?,
+        Some(text) => Target::host(text).ok_or(Part::Host)?,
         None => Target::local(),
     };
-    Some(single(target, Request::List(Query::Ups), form))
+    Ok(single(target, Request::List(Query::Ups), form))
 }
 
 /// The order after what is sent before it.
-fn ordered(by: &Sender<'_>, order: Option<Order>) -> Option<Job>
-    ensures { option_map parts_of result ≡ ordered (login_of by.now) order }
+fn ordered(by: &Sender<'_>, order: Result<Order, Part>) -> Result<Job, Part>
+    ensures { option_map parts_of (result_ok result) ≡ ordered (login_of by.now) (result_ok order) }
 {
     let mut requests = login(by)?;
     let (target, request) = order?;
     requests.push(request);
-    Some(Job {
+    Ok(Job {
         target,
         requests,
         form: Form::Value,
@@ -130,19 +143,19 @@ fn ordered(by: &Sender<'_>, order: Option<Order>) -> Option<Job>
 
 /// What is sent before an order: the user's name, the password, and where it is tracked, the asking
 /// for its id.
-fn login(by: &Sender<'_>) -> Option<ArrayVec<Request, REQUEST_LIMIT>>
-    ensures requests { option_map (λ r. r.items) result ≡ login_of by.now }
-    ensures few { IfSome result (λ r. length r.items ≤ 3) }
+fn login(by: &Sender<'_>) -> Result<ArrayVec<Request, REQUEST_LIMIT>, Part>
+    ensures requests { option_map (λ r. r.items) (result_ok result) ≡ login_of by.now }
+    ensures few { IfOk result (λ r. length r.items ≤ 3) }
 {
-    let user = word(by.user, USER_LIMIT)?;
-    let password = word(by.password, PASSWORD_LIMIT)?;
+    let user = word(by.user, USER_LIMIT).ok_or(Part::User)?;
+    let password = word(by.password, PASSWORD_LIMIT).ok_or(Part::Password)?;
     let mut requests = ArrayVec::new();
     requests.push(Request::Username(user));
     requests.push(Request::Password(password));
     if by.track {
         requests.push(Request::SetTracking);
     }
-    Some(requests)
+    Ok(requests)
 }
 
 /// A word of 1 to so many lawful bytes.
@@ -156,12 +169,13 @@ fn word(text: &str, most: usize) -> Option<Value>
 }
 
 /// The order to set a variable of a UPS.
-fn set_order(track: bool, place: Option<UpsPlace>, setting: &str) -> Option<Order>
-    ensures { result ≡ set_order track place (setting_of setting.now) }
+fn set_order(track: bool, ups: &str, setting: &str) -> Result<Order, Part>
+    ensures { result_ok result
+        ≡ set_order track (ups_place_of ups.now) (setting_of setting.now) }
 {
-    let (ups, target) = place?;
-    let (name, value) = setting_parts(setting)?;
-    Some((target, set_request(track, ups, name, value)))
+    let (ups, target) = place(ups)?;
+    let (name, value) = setting_parts(setting).ok_or(Part::Setting)?;
+    Ok((target, set_request(track, ups, name, value)))
 }
 
 /// That a variable be set, tracked or not.
@@ -185,22 +199,18 @@ fn setting_parts(text: &str) -> Option<(Name, Value)>
 }
 
 /// The order to do a command of a UPS, with a value or without.
-fn command_order(
-    track: bool,
-    place: Option<UpsPlace>,
-    name: &str,
-    value: Option<&str>,
-) -> Option<Order>
-    ensures { result
-        ≡ command_order track place (lawful (read_name name.now)) (value_of value.entry) }
+fn command_order(track: bool, ups: &str, name: &str, value: Option<&str>) -> Result<Order, Part>
+    ensures { result_ok result
+        ≡ command_order track (ups_place_of ups.now) (lawful (read_name name.now))
+        (value_of value.entry) }
 {
-    let (ups, target) = place?;
-    let name = Name::read(name.as_bytes()).ok()?;
+    let (ups, target) = place(ups)?;
+    let name = name_of(name, Part::Command)?;
     let value = match value {
-        Some(text) => Some(Value::read(text.as_bytes()).ok()?),
+        Some(text) => Some(Value::read(text.as_bytes()).map_err(|_| Part::Value)?),
         None => None,
     };
-    Some((target, command_request(track, ups, name, value)))
+    Ok((target, command_request(track, ups, name, value)))
 }
 
 /// That a command be done, tracked or not.

@@ -3,6 +3,7 @@
 #![tactic(auto)]
 
 mod client;
+mod clues;
 mod connection;
 mod ending;
 mod engine;
@@ -11,6 +12,8 @@ mod given;
 mod job;
 pub mod laws;
 mod limits;
+mod meaning;
+mod part;
 mod printed;
 mod program;
 mod shown;
@@ -18,12 +21,14 @@ mod start;
 mod target;
 
 pub use client::Client;
+pub use clues::Clues;
 pub use connection::connect;
 pub use engine::{do_job, run};
 pub use form::Form;
 pub use given::{Given, Sender};
 pub use job::Job;
 pub use limits::{DEFAULT_PORT, HOST_LIMIT, PASSWORD_LIMIT, PORT_LIMIT, USER_LIMIT, WAIT_SECONDS};
+pub use part::Part;
 pub use program::Program;
 pub use start::main_of;
 pub use target::{Host, Target};

@@ -26,3 +26,6 @@ pub const WORD_FAULT: u8 = 2;
 /// The most requests of a job: the user's name, the password, the asking for tracking, and the
 /// order.
 pub const REQUEST_LIMIT: usize = 4;
+
+/// The most bytes of why a fault came: a host, and what the system says.
+pub const WHY_LIMIT: usize = 512;

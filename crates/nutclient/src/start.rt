@@ -7,10 +7,11 @@ ghost use Rattle.clap.specs.declared.error.Error.{Error};
 ghost use Rattle.clap.specs.declared.parser.matches.ArgMatches.{ArgMatches};
 ghost use Rattle.nutrequest.specs.Fault.{status_of};
 ghost use Rattle.nutclient.specs.Ending.{name_of};
-ghost use Rattle.nutclient.specs.Start.{ended, EndsAsAsked, EndsAsRefused};
+ghost use Rattle.nutclient.specs.Start.{EndsAsAsked, EndsAsRefused};
 ghost use Rattle.nutcommand.specs.Words.{program_with};
 
-use crate::connection::Patient;
+use crate::clues::{Clues, Why};
+use crate::connection::{Output, Patient};
 use crate::limits::WORD_FAULT;
 use crate::{Client, Job, Program, connect, do_job, ending};
 use clap::{ArgMatches, Command, Error};
@@ -27,46 +28,72 @@ pub fn main_of<C: Client>(rt: &HostRuntime) -> ExitCode
     ensures { exit_status result ≤ WORD_FAULT }
 {
     hold_standard_streams(rt);
-    let words = match words_of(rt, ClientFault::BadTarget, ClientFault::Memory) {
-        Ok(words) => words,
-        Err(fault) => return report(rt, C::PROGRAM, fault),
+    let status = match words_of(rt, ClientFault::BadTarget, ClientFault::Memory) {
+        Ok(words) => obey::<C>(rt, &words),
+        Err(ClientFault::BadTarget) => refuse(rt, C::PROGRAM, "a word is not UTF-8"),
+        Err(fault) => report(rt, C::PROGRAM, &fault, &Why::new()),
     };
-    match obey::<C>(rt, &words) {
-        Ok(status) => ExitCode::from(status),
-        Err(fault) => report(rt, C::PROGRAM, fault),
-    }
+    ExitCode::from(status)
 }
 
 /// Does what these words ask for: prints the help, or connects to the server and does the job.
 /// Gives the exit status.
-fn obey<C: Client>(rt: &HostRuntime, words: &[String]) -> Result<u8, ClientFault>
+fn obey<C: Client>(rt: &HostRuntime, words: &[String]) -> u8
     // The program ends by what was found in the words, or by why they were refused.
     ensures ends { (parsed : Result ArgMatches Error)
         × IfOk parsed (HasMatchesOf (program_with (name_of C.PROGRAM) C.words)
         (map string_bytes words.now))
         × MatchResult parsed
-        (λ found. EndsAsAsked C.asks found (ended result))
-        (λ error. EndsAsRefused error (ended result)) }
-    ensures most { ended result ≤ WORD_FAULT }
+        (λ found. EndsAsAsked C.asks found result)
+        (λ error. EndsAsRefused error result) }
+    ensures most { result ≤ WORD_FAULT }
 {
     let found = match matches_of::<C>(rt.alloc(), words) {
         Ok(found) => found,
-        Err(error) => return print_refusal(rt, &error).ok_or(ClientFault::Memory),
+        Err(error) => return end(rt, C::PROGRAM, &error),
     };
-    let job = Job::read(&C::given(&found)).ok_or(ClientFault::BadTarget)?;
-    let stream = connect(rt, &job.target)?;
+    match Job::read(&C::given(&found)) {
+        Ok(job) => work(rt, C::PROGRAM, &job),
+        Err(part) => refuse(rt, C::PROGRAM, part.rule()),
+    }
+}
+
+/// Prints what the parser of the words says, and gives the exit status.
+fn end(rt: &HostRuntime, program: Program, error: &Error) -> u8
+    ensures { EndsAsRefused error.now result }
+{
+    match print_refusal(rt, error) {
+        Some(status) => status,
+        None => report(rt, program, &ClientFault::Memory, &Why::new()),
+    }
+}
+
+/// Connects to the server and does the job. Gives the exit status.
+fn work(rt: &HostRuntime, program: Program, job: &Job) -> u8
+    ensures { result ≤ 1 }
+{
+    let clues = Clues::new(job);
+    let stream = match connect(rt, &job.target, &clues) {
+        Ok(stream) => stream,
+        Err(fault) => return report(rt, program, &fault, &clues.why(&fault)),
+    };
+    let (clues, stream) = (&clues, &stream);
     let stderr = rt.stderr();
     let (status, _) = do_job(
         rt.alloc(),
-        CountedReader::new(Patient(&stream)),
-        CountedWriter::new(Patient(&stream)),
-        &mut CountedWriter::new(io::writer(rt)),
+        CountedReader::new(Patient { stream, clues }),
+        CountedWriter::new(Patient { stream, clues }),
+        &mut CountedWriter::new(Output {
+            writer: io::writer(rt),
+            clues,
+        }),
         &mut CountedWriter::new(io::writer(&stderr)),
         rt.stdout().is_terminal(),
-        C::PROGRAM,
-        &job,
+        program,
+        job,
+        clues,
     );
-    Ok(status)
+    status
 }
 
 /// What the words say.
@@ -83,11 +110,19 @@ fn matches_of<'a, C: Client>(alloc: Global, words: &'a [String]) -> Result<ArgMa
     with_words(alloc, command, C::words())?.try_get_matches_from(words)
 }
 
-/// Reports a fault on standard error.
-fn report(rt: &HostRuntime, program: Program, fault: ClientFault) -> ExitCode
-    ensures { exit_status result ≡ status_of fault }
+/// Reports that a word isn't lawful, and why.
+fn refuse(rt: &HostRuntime, program: Program, why: &str) -> u8
+    ensures { result ≡ WORD_FAULT }
+{
+    let why = Why::from(why).unwrap_or_default();
+    report(rt, program, &ClientFault::BadTarget, &why)
+}
+
+/// Reports a fault on standard error, and gives the exit status.
+fn report(rt: &HostRuntime, program: Program, fault: &ClientFault, why: &Why) -> u8
+    ensures { result ≡ status_of fault.now }
 {
     let stderr = rt.stderr();
     let mut err = CountedWriter::new(io::writer(&stderr));
-    ExitCode::from(ending::report(&mut err, program, &fault))
+    ending::report(&mut err, program, fault, why)
 }

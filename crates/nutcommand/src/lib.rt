@@ -1,11 +1,13 @@
 //! How the programs begin: with their standard streams, and with the words of their command lines.
-//! And how they end where these are refused.
+//! And how they end where these are refused, or where the system refuses a call.
 #![tactic(auto)]
 
 mod refusal;
+mod said;
 mod standard;
 mod words;
 
 pub use refusal::print_refusal;
+pub use said::Said;
 pub use standard::hold_standard_streams;
 pub use words::{Bond, Form, Word, with_words, words_of};

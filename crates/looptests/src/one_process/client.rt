@@ -1,7 +1,7 @@
 //! upsc's end: while it waits for the server, the server has its turns.
 use super::served::{Served, TURN_LIMIT};
 use anyhow::Result;
-use nutclient::{Given, Job, connect, run};
+use nutclient::{Clues, Given, Job, connect, run};
 use nutio::{CountedReader, CountedWriter};
 use nutrequest::{ClientFault, Session};
 use std::io;
@@ -12,8 +12,8 @@ use std::net::TcpStream;
 /// refuses it until the driver has reported all.
 pub fn print_variables(rt: &HostRuntime, served: &mut Served<'_>) -> Result<bool> {
     let ups = format!(in rt.alloc(); "su@127.0.0.1:{}", served.port()?)?;
-    let job = Job::read(&Given::Variables(ups.as_str())).ok_or(ClientFault::BadTarget)?;
-    let stream = connect(rt, &job.target)?;
+    let job = Job::read(&Given::Variables(ups.as_str())).map_err(|_| ClientFault::BadTarget)?;
+    let stream = connect(rt, &job.target, &Clues::new(&job))?;
     stream.set_nonblocking(true)?;
     match print(rt, &stream, served, &job) {
         Ok(()) => Ok(true),

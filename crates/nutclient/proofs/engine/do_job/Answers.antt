@@ -19,7 +19,7 @@ pub returns-in-Err : goal.returns-in-Err
 returns-in-Err g c =
     let begun = c.new-session.result in
     let after = c.run.new.session in
-    let told = subst (λ o. EndsBy g.E.Sink.contents g.E.Sink.failures c.args.program o c.args.err.now c.report.result c.report.new.err) (sym c.in-Err.is) c.report.ensures in
+    let told = subst (λ o. EndsBy g.E.Sink.contents g.E.Sink.failures c.args.program o c.args.err.now c.report.result c.report.new.err) (sym c.in-Err.is) (c.why.result.bytes, c.report.ensures) in
     let e = ends g.R.Source.remaining g.R.Source.failures g.W.Sink.contents g.W.Sink.failures g.O.Sink.contents g.O.Sink.failures g.E.Sink.contents g.E.Sink.failures
     c.args.program c.args.job.now.requests.items c.args.job.now.form c.args.is_terminal c.args.reader c.args.writer c.args.out.now c.args.err.now
     (unread_of after) (reader_of after) (writer_of after) c.run.new.out c.report.new.err c.report.result (unread_of begun) (reader_of begun) (writer_of begun) c.run.result

@@ -2,14 +2,19 @@
 
 usage: build.py NAME ..     at the top of the repository; each stands as crates/NAME/out/NAME then
 
-`rt run` in a program's folder does the same, one crate after another. Ends with status 1 where one isn't proved."""
+It builds by the kit's own module. Where that isn't as this script knows it, `rt` builds one crate after another, which takes
+longer. Ends with status 1 where one isn't proved."""
 import concurrent.futures
 import os
 import re
+import subprocess
 import sys
 import tempfile
 
-from kit import rt, rtlib
+try:
+    from kit import rt, rtlib
+except Exception:  # of another kit, it may fail in any way
+    rt = rtlib = None
 
 # From so many lines on a crate of the chain is checked by four jobs, and all else by two: two take 1.2 times the work of
 # one, four take 1.5 times.
@@ -23,10 +28,15 @@ def keep(crate, name, call):
         crate.out.seek(0)
         said = crate.out.read()
     crate.out = sys.stdout
+    return is_kept(status, said, f"{crate.folder}/out/{name}")
+
+
+def is_kept(status, said, path):
+    """Keeps the last line of a check, which ended with this status and said this. Returns whether it went well."""
     if status:
         print(said, end="", flush=True)
     elif last := re.findall(r"^logic=.*\n", said, re.M)[-1:]:
-        with open(f"{crate.folder}/out/{name}", "w", encoding="utf-8") as file:
+        with open(path, "w", encoding="utf-8") as file:
             file.writelines(last)
     return status == 0
 
@@ -66,10 +76,40 @@ def build_all(crates):
         return [it for it in crates if built[it].result()]
 
 
+def crates_of(names):
+    """These programs and what they stand on, or nothing where the kit's module isn't as expected."""
+    try:
+        rtlib.guarded()
+        programs = [it for it in rtlib.crates_below(os.getcwd()) if it.name in names]
+        crates = {*programs, *[dep for it in programs for dep in it.below()]}
+        used = [rt.processors, *(getattr(it, call) for it in crates for call in ("run", "build_rlib", "count", "is_program"))]
+        return crates if used else set()
+    except (AttributeError, TypeError):
+        print("build: the kit's module isn't as expected: one crate after another", flush=True)
+        return set()
+
+
+def build_in_turn(names):
+    """Builds these programs and what they stand on by the kit's command, as crates.txt has them, the lowest first."""
+    with open("crates.txt", encoding="utf-8") as file:
+        below = {name: deps.split() for name, deps in re.findall(r"^(\w+):(.*)$", file.read(), re.M)}
+    wanted = {*names}
+    for name in reversed(below):
+        wanted |= {*below[name]} if name in wanted else set()
+    for name in (it for it in below if it in wanted):
+        words = ["rt", "run", "--", "--version"] if name in names else ["rt", "lib"]
+        ran = subprocess.run(words, cwd=f"crates/{name}", stdout=subprocess.PIPE, stderr=subprocess.STDOUT, text=True, check=False)
+        well = is_kept(ran.returncode, ran.stdout, f"crates/{name}/out/verdict")
+        print(f"build: {name}: {'proved' if well else 'FAILED'}", flush=True)
+        if not well:
+            return False
+    return True
+
+
 def main(names):
-    rtlib.guarded()
-    programs = [it for it in rtlib.crates_below(os.getcwd()) if it.name in names]
-    crates = {*programs, *[dep for it in programs for dep in it.below()]}
+    crates = crates_of(names)
+    if not crates:
+        return 0 if build_in_turn(names) else 1
     return 0 if len(build_all(crates)) == len(crates) else 1
 
 

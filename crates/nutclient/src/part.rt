@@ -1,0 +1,34 @@
+//! The words of a command line that aren't lawful, and what each has to be.
+
+/// A word of a command line, by its name in the help.
+#[derive(Clone, Copy, Debug)]
+pub enum Part {
+    Ups,
+    Host,
+    Variable,
+    Command,
+    Id,
+    Setting,
+    Value,
+    User,
+    Password,
+}
+
+impl Part {
+    /// What it has to be.
+    pub fn rule(self) -> &'static str {
+        match self {
+            Part::Ups => {
+                "UPS has to be ups[@host[:port]], with a host of letters, digits, . and -"
+            }
+            Part::Host => "HOST has to be host[:port], with a host of letters, digits, . and -",
+            Part::Variable => "VAR has to be 1 to 64 letters, digits, . - _",
+            Part::Command => "CMD has to be 1 to 64 letters, digits, . - _",
+            Part::Id => "ID has to be one that --track printed",
+            Part::Setting => "VAR=VALUE has to be a name, = and a value of at most 512 bytes",
+            Part::Value => "VALUE has to be at most 512 bytes, none of them a control character",
+            Part::User => "USER has to be 1 to 64 bytes, none of them a control character",
+            Part::Password => "PASS has to be 1 to 256 bytes, none of them a control character",
+        }
+    }
+}
