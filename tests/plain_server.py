@@ -127,10 +127,10 @@ class Ups(End):
         value = self.variables[name].value
         return b"FSD " + value if self.forced and name == b"ups.status" else value
 
-    def why_not_usable(self, moment):
+    def why_not_usable(self, moment, max_age):
         if not self.connected:
             return b"DRIVER-NOT-CONNECTED"
-        is_live = self.dumped and self.ok and moment - self.heard <= MAX_AGE
+        is_live = self.dumped and self.ok and moment - self.heard <= max_age
         return None if is_live else b"DATA-STALE"
 
     def owe(self, line):
@@ -213,7 +213,7 @@ class Server:
     def __init__(self, ups=b"[su]\n", users=b"", vars=b""):
         self.upses = {name: Ups(name, dict(entries).get(b"desc", b"Unavailable")) for name, entries in sorted(sections_of(ups).items())}
         self.users, self.descriptions = sections_of(users), {(kind, name): text for kind, name, text in lines_of(vars)}
-        self.sessions, self.moment = [], 0
+        self.sessions, self.moment, self.max_age = [], 0, MAX_AGE
         self.refuse = None  # how many lines of the event are executed before memory is refused
 
     # What drivers do.
@@ -256,7 +256,7 @@ class Server:
         self.moment = max(self.moment, seconds)
         for ups in self.upses.values():
             quiet = min(self.moment - ups.heard, self.moment - ups.pinged)
-            if ups.connected and quiet >= MAX_AGE // 3 and ups.owe(b"PING"):
+            if ups.connected and quiet >= self.max_age // 3 and ups.owe(b"PING"):
                 ups.pinged = self.moment
 
     # What clients do.
@@ -336,7 +336,7 @@ class Server:
         """The checks of the UPS, of its state and of the variable."""
         demand(rest[0] in self.upses, Error(b"UNKNOWN-UPS"))
         ups = self.upses[rest[0]]
-        why = ups.why_not_usable(self.moment)
+        why = ups.why_not_usable(self.moment, self.max_age)
         demand(verb not in LIVE or not why, Error(why))
         demand(verb not in OF_VARIABLE or rest[1] in ups.variables, Error(b"VAR-NOT-SUPPORTED"))
         return ups
@@ -438,7 +438,9 @@ class Replay:
 
     def output(self, script):
         for number, line in enumerate(script.split(b"\n"), 1):
-            if line.strip(BLANKS) and not line.lstrip(BLANKS).startswith(b"#"):
+            if number == 1 and line.startswith(b"maxage "):
+                self.server.max_age = int(line.split(b" ")[1])
+            elif line.strip(BLANKS) and not line.lstrip(BLANKS).startswith(b"#"):
                 self.place = 0
                 self.act(number, *line.split(b" ", 1))
         text = b"".join(self.notes)

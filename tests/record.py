@@ -75,8 +75,8 @@ def a_record_replays_to_the_same_bytes():
     record = f"{FOLDER}/session"
     assert os.stat(record).st_mode & 0o777 == 0o600
     lines = content("session").split(b"\n")
-    assert lines[0].startswith(b"# Voqarchay ") and lines[0].endswith(b"--ids /dev/urandom"), lines[0]
-    verbs = {line.split(b" ")[0] for line in lines[1:-1]}
+    assert lines[0] == b"maxage 15" and lines[1].startswith(b"# Voqarchay ") and lines[1].endswith(b"--ids /dev/urandom"), lines[:2]
+    verbs = {line.split(b" ")[0] for line in lines[2:-1]}
     assert verbs >= {b"up", b"down", b"driver-hex", b"driver-took", b"tick", b"open", b"client-hex", b"took", b"close", b"id"}, verbs
     # A file that exists is never written to, and the server serves.
     with recorded("session", TWO) as (server, _, good):
@@ -131,6 +131,18 @@ def replaying_takes_three_times_the_record_at_most():
     return f"{most / size:.2f} times"
 
 
+def a_record_has_the_greatest_age():
+    """A driver is silent for longer than the default one."""
+    with recorded("aged", TWO, "--maxage", "30") as (server, driver, good):
+        time.sleep(18)
+        assert good.ask(GET) == b'VAR su ups.status "OL"\n'
+        replays("aged", end(server, driver))
+    aged = content("aged")
+    assert aged.startswith(b"maxage 30\n# Voqarchay "), aged[:40]
+    BENCH.file("bad-age", aged.replace(b"maxage 30", b"maxage 2"))
+    assert BENCH.ends("replay", *FILES, "bad-age") == (1, b"", b"upsd: bad-age:1: bad event\n")
+
+
 def a_head_that_is_cut_is_not_continued():
     """The disk is full for the first write alone."""
     upsd = BENCH.file("headless", f"#!/bin/bash\ntrap '' XFSZ\nexec prlimit --fsize=40:unlimited {BENCH.program} \"$@\"\n".encode())
@@ -139,7 +151,7 @@ def a_head_that_is_cut_is_not_continued():
         resource.prlimit(server.process.pid, resource.RLIMIT_FSIZE, (resource.RLIM_INFINITY, resource.RLIM_INFINITY))
         assert good.ask(GET).startswith(b"VAR")
         assert comes(lambda: server.journal().count("upsd: the record has ended") == 1), server.journal()
-    assert re.fullmatch(rb"# Voqarchay .{28}", content("cut")), content("cut")
+    assert re.fullmatch(rb"maxage 15\n# Voqarchay .{18}", content("cut")), content("cut")
 
 
 SECRETS = rb"s3|cret|p\\?w\b|longer|once|AB12CD"

@@ -1,11 +1,11 @@
 -- Which lines of a UPS, or of a client's address, are logged, and which are counted.
 use Rattle.std.specs.Prelude.{◌≡◌, ℕ, ◌+◌, ◌-◌, ◌^◌, ◌<◌, ◌==◌, ◌&&◌, ◌||◌, Bool, List, [], ◌∷◌}
-use Rattle.std.specs.Prelude.{if◌then◌else◌, not, nat_lt, min, max, ◌≤◌, length, slice_index, slice_set}
+use Rattle.std.specs.Prelude.{◌≢◌, ◌/◌, true, Option, Some, None, if◌then◌else◌, not, nat_lt, min, max, ◌≤◌, length, slice_index, slice_set}
 use Rattle.std.specs.List.{repeat}
 use Rattle.nutjournal.specs.declared.tally.Kind.{Kind}
 use Rattle.nutjournal.specs.declared.tally.Kind.TheVariants as kinds
 use Rattle.nutjournal.specs.declared.tally.Tally.{Tally}
-use Rattle.nutjournal.specs.declared.tally.TheConstants.{LINE_LIMIT, ALARM_LIMIT, PLAIN_LIMIT, LOSS_LIMIT}
+use Rattle.nutjournal.specs.declared.tally.TheConstants.{LINE_LIMIT, ALARM_LIMIT, PLAIN_LIMIT, LOSS_LIMIT, MINUTE}
 
 -- The most lines in a second before one of this kind: alarms and orders have one more than all
 -- else, and a forced shutdown one more than these.
@@ -66,6 +66,11 @@ after_line y kind =
       more = slice_set y.more (number kind) (one_more (count kind y));
     }
 
+-- Another minute has begun since the second in which the journal was written last.
+abbrev pub begins_minute : Option ℕ → ℕ → Bool
+begins_minute None now = true
+begins_minute (Some second) now = not (second / MINUTE == now / MINUTE)
+
 -- What was counted is reported once the second is over: of a driver that was lost too often once
 -- the minute is.
 abbrev pub is_reported : Tally → Bool → Bool
@@ -113,3 +118,11 @@ pub record EachLineIsLoggedOrCounted : Type 0 where
       → logged_of kind y lines + count kind (after_lines y lines) ≡ count kind y + times kind lines
   pub most : (y : Tally) (lines : List Kind)
       → (after_lines y lines).logged ≤ max y.logged LINE_LIMIT
+
+-- In each minute the first two losses of a driver are logged, within the lines of their second. A
+-- minute counts its own losses only, whatever seconds the clock skipped before.
+pub record LossesAreLoggedInTheirMinute : Type 0 where
+  pub none_yet : (y : Tally) (was now : ℕ) → was / MINUTE ≢ now / MINUTE
+      → (after_second y (begins_minute (Some was) now)).losses ≡ 0
+  pub logged : (y : Tally) → y.losses < LOSS_LIMIT → y.logged < PLAIN_LIMIT
+      → is_logged y kinds.Lost ≡ true

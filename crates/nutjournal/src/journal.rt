@@ -4,7 +4,7 @@ ghost use Rattle.nutjournal.specs.Tallies.{LeadsTo};
 
 use crate::log_buffer::{INFO, LogBuffer, WARNING};
 use crate::tallies::{Of, Tallies};
-use crate::tally::Kind;
+use crate::tally::{Kind, MINUTE, begins_minute};
 use nutcore::{DataState, Deed, DriverFault, MaxAge, Note, Server, UpsId, Verb, Who};
 use nutwords::UpsName;
 use std::alloc::AllocError;
@@ -14,9 +14,6 @@ use std::mem;
 
 /// What is logged of data, by the number of their state.
 const DATA: [Kind; 4] = [Kind::Lost, Kind::Awaited, Kind::Good, Kind::Stale];
-
-/// In seconds.
-const MINUTE: u64 = 60;
 
 /// The drivers, by the places of their UPSs. Each place is a byte.
 type Drivers = [Driver; 256];
@@ -109,8 +106,7 @@ impl Journal {
         let moment = Some(server.current_moment());
         let was = mem::replace(&mut self.moment, moment);
         if was != moment {
-            let is_minute = was.map(|second| second / MINUTE)
-                != moment.map(|second| second / MINUTE);
+            let is_minute = begins_minute(was, server.current_moment());
             self.log_drivers(server, is_minute, error_of);
             self.log_counts(server.current_moment() / MINUTE, counts, is_record_cut);
         } else if server.notes().is_empty() {

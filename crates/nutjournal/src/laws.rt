@@ -1,9 +1,9 @@
 //! The numbers of the journal, and what it logs and counts.
 ghost use Rattle.std.specs.Prelude.{◌≡◌};
-ghost use Rattle.nutjournal.specs.Tally.{EachLineIsLoggedOrCounted};
+ghost use Rattle.nutjournal.specs.Tally.{EachLineIsLoggedOrCounted, LossesAreLoggedInTheirMinute};
 ghost use Rattle.nutjournal.specs.declared.log_buffer.TheConstants.{LOG_LIMIT};
 ghost use Rattle.nutjournal.specs.declared.tallies.TheConstants.{ADDRESS_COUNT};
-ghost use Rattle.nutjournal.specs.declared.tally.TheConstants.{ALARM_LIMIT, LINE_LIMIT, LOSS_LIMIT, PLAIN_LIMIT};
+ghost use Rattle.nutjournal.specs.declared.tally.TheConstants.{ALARM_LIMIT, LINE_LIMIT, LOSS_LIMIT, MINUTE, PLAIN_LIMIT};
 
 /// The most lines in a second of a UPS or of an address, and how many addresses have a count of their
 /// own; how often a driver is lost in a minute; and the most bytes of the journal that wait.
@@ -13,6 +13,7 @@ pub fn numbers()
     ensures plain { PLAIN_LIMIT ≡ 8 }
     ensures addresses { ADDRESS_COUNT ≡ 64 }
     ensures losses { LOSS_LIMIT ≡ 2 }
+    ensures minute { MINUTE ≡ 60 }
     ensures waiting { LOG_LIMIT ≡ 32768 }
 {}
 
@@ -21,4 +22,10 @@ pub fn numbers()
 #[tactic(auto, using(crate::proofs::Lines::each_line_is_logged_or_counted))]
 pub fn each_line_is_logged_or_counted()
     ensures { EachLineIsLoggedOrCounted }
+{}
+
+/// In each minute the first two losses of a driver are logged, within the lines of their second. A
+/// minute counts its own losses only, whatever seconds the clock skipped before.
+pub fn losses_are_logged_in_their_minute()
+    ensures { LossesAreLoggedInTheirMinute }
 {}

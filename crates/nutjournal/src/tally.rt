@@ -1,7 +1,7 @@
 //! How many lines of a UPS, or of the clients of an address, are logged in a second. All more are
 //! counted.
 ghost use Rattle.std.specs.Prelude.{◌≡◌};
-ghost use Rattle.nutjournal.specs.Tally.{after_line, after_second, is_logged, is_restless, limit_of, reported};
+ghost use Rattle.nutjournal.specs.Tally.{after_line, after_second, begins_minute, is_logged, is_restless, limit_of, reported};
 
 use crate::log_buffer::{CRITICAL, INFO, NOTICE, WARNING};
 use std::fmt::{self, Formatter, Write};
@@ -17,6 +17,20 @@ pub const PLAIN_LIMIT: u64 = 8;
 
 /// How often a driver is lost in a minute before its coming and going is only counted.
 pub const LOSS_LIMIT: u64 = 2;
+
+/// In seconds.
+pub const MINUTE: u64 = 60;
+
+/// Whether another minute has begun since the second in which the journal was written last, whatever
+/// seconds the clock skipped.
+pub fn begins_minute(was: Option<u64>, now: u64) -> bool
+    ensures { result ≡ begins_minute was now }
+{
+    match was {
+        Some(second) => second / MINUTE != now / MINUTE,
+        None => true,
+    }
+}
 
 /// What a line says.
 #[derive(Clone, Copy)]

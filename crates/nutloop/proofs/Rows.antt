@@ -45,13 +45,13 @@ calls_join (Some xs) (Some ys) None x y h k = tt
 calls_join (Some xs) (Some ys) (Some zs) x y h k = k ∙ ap (λ t. t ++ y) h ∙ append_assoc xs x y
 
 pub grows_nothing : (a : Reported) → Grows a a []
-grows_nothing a = (calls_nothing a.answered, λ events recorded. subst a.records (sym (append-nil events)) recorded)
+grows_nothing a = (calls_nothing a.answered, λ age events recorded. subst (a.records age) (sym (append-nil events)) recorded)
 
 pub grows_joins : (a b c : Reported) (x y : List Call) → Grows a b x → Grows b c y → Grows a c (x ++ y)
 grows_joins a b c x y h k = (
   calls_join a.answered b.answered c.answered x y h.0 k.0,
-  λ events recorded. subst c.records (append_assoc events (events_in x) (events_in y) ∙ ap (λ more. events ++ more) (sym (flat_map-append event_in x y)))
-      (k.1 (events ++ events_in x) (h.1 events recorded)),
+  λ age events recorded. subst (c.records age) (append_assoc events (events_in x) (events_in y) ∙ ap (λ more. events ++ more) (sym (flat_map-append event_in x y)))
+      (k.1 age (events ++ events_in x) (h.1 age events recorded)),
 )
 
 -- A call after one of which nothing is reported.

@@ -290,9 +290,9 @@ every_byte_is_moved_once {S} calls failures = λ old new sockets after results b
 
 -- What is recorded of the events.
 pub every_event_is_recorded : {S : Type 0} (calls : S → Reported) (failures : S → ℕ) → EveryEventIsRecorded calls failures
-every_event_is_recorded {S} calls failures = λ old new sockets after results before turns recorded. from old new sockets after before (turns_are_moved calls failures results old sockets new after turns) recorded
+every_event_is_recorded {S} calls failures = λ old new sockets after results max_age before turns recorded. from old new sockets after max_age before (turns_are_moved calls failures results old sockets new after turns) recorded
   where
-    from : (old new : ServerState) (sockets after : S) (before : List Event) → Moves calls old sockets new after → (calls sockets).records before
-        → (events : List Event) × ((outcomes : List Outcome) × Run old events outcomes new × (calls after).records (before ++ events))
-    from old new sockets after before m recorded =
-        (m.events, (m.outcomes, m.run, subst (λ es. (calls after).records (before ++ es)) m.tells (m.grown.1 before recorded)))
+    from : (old new : ServerState) (sockets after : S) (max_age : ℕ) (before : List Event) → Moves calls old sockets new after → (calls sockets).records max_age before
+        → (events : List Event) × ((outcomes : List Outcome) × Run old events outcomes new × (calls after).records max_age (before ++ events))
+    from old new sockets after max_age before m recorded =
+        (m.events, (m.outcomes, m.run, subst (λ es. (calls after).records max_age (before ++ es)) m.tells (m.grown.1 max_age before recorded)))

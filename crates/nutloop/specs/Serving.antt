@@ -73,16 +73,16 @@ AnyTurnsAreOneRun {S} calls failures =
     (old new : ServerState) (sockets after : S) (results : List (Result (Unit {0}) LoopFault))
     → Turns calls failures old sockets results new after → IsOneRun old new
 
--- Over any turns, the record of some events becomes one of these and of the events of one run, each
--- once and in order.
+-- Over any turns, the record of some events of a server becomes one of these and of the events of one
+-- run, each once and in order.
 abbrev pub EveryEventIsRecorded : {S : Type 0} → (S → Reported) → (S → ℕ) → Type 0
 EveryEventIsRecorded {S} calls failures =
     (old new : ServerState) (sockets after : S) (results : List (Result (Unit {0}) LoopFault))
-    (before : List Event) → Turns calls failures old sockets results new after
-    → (calls sockets).records before
+    (max_age : ℕ) (before : List Event) → Turns calls failures old sockets results new after
+    → (calls sockets).records max_age before
     → (events : List Event)
     × ((outcomes : List Outcome) × Run old events outcomes new
-    × (calls after).records (before ++ events))
+    × (calls after).records max_age (before ++ events))
 
 abbrev pub AnyTurnsKeepAddressesLawful : {S : Type 0} → (S → Reported) → (S → ℕ)
     → Type 0

@@ -31,15 +31,15 @@ AtMost (Ok Later) into = ⊤
 AtMost (Ok End) into = ⊤
 AtMost (Err e) into = ⊤
 
--- What sockets report: the calls that were answered, where they are known; and of which events they
--- hold a record.
+-- What sockets report: the calls that were answered, where they are known; and of which events of a
+-- server of which greatest age they hold a record.
 pub record Reported : Type 1 where
   pub answered : Option (List Call)
-  pub records : List Event → Type 0
+  pub records : ℕ → List Event → Type 0
 
 -- Sockets that report nothing.
 abbrev pub nothing_reported : Reported
-nothing_reported = record { answered = None; records = λ events. ⊥ }
+nothing_reported = record { answered = None; records = λ max_age events. ⊥ }
 
 -- The event that these bytes come from the peer.
 abbrev pub came_from : Peer → List ℕ → Event
@@ -62,8 +62,9 @@ GrowsBy (Some xs) None more = ⊤
 GrowsBy (Some xs) (Some ys) more = ys ≡ xs ++ more
 
 -- A record of some events becomes one of these and of the next ones.
-abbrev pub Continues : (List Event → Type 0) → (List Event → Type 0) → List Event → Type 0
-Continues old new next = (events : List Event) → old events → new (events ++ next)
+abbrev pub Continues : (ℕ → List Event → Type 0) → (ℕ → List Event → Type 0) → List Event → Type 0
+Continues old new next =
+    (max_age : ℕ) (events : List Event) → old max_age events → new max_age (events ++ next)
 
 -- What is reported grows by these calls, and the record by their events.
 abbrev pub Grows : Reported → Reported → List Call → Type 0

@@ -1,28 +1,13 @@
--- The lines of a script, done one after another.
+-- The parts of the drivers, written one after another.
 use Rattle.std.proofs.Common.{drop, append-nil, append_assoc, ◌≡◌, ◌≤◌, ◌+◌, ◌∙◌, List, [], ◌∷◌, ◌++◌, Option, Some, None, Bool, true, false, refl, sym, ap, subst, ℕ, length}
-use Rattle.std.specs.Prelude.{slice_get, if◌then◌else◌}
-use Rattle.nutwords.specs.Text.{is_silent}
+use Rattle.std.specs.Prelude.{slice_get}
 use Rattle.std.specs.Option.{option_map}
 use Rattle.std.proofs.Math.ListN.{drop_of_length-le}
 use Rattle.std.proofs.lemmas.List.{drop_more}
 use Rattle.std.proofs.lemmas.Option.{slice_get_within, get_or_from_slice_get}
-use Rattle.nutreplay.specs.Script.{ScriptLine, actions_from, numbered, read_line}
-use Rattle.nutreplay.specs.declared.script.action.Action.{Action}
 use Rattle.nutusers.specs.UpsList.{Ups}
-use Rattle.nutreplay.specs.Transcript.{TranscriptState, IsDone, AreDone, driver_part, drivers_part}
+use Rattle.nutreplay.specs.Transcript.{driver_part, drivers_part}
 use Rattle.nutreplay.specs.declared.transcript.sent.Taken.{Taken}
-
--- a line that asks for nothing, and then the others
-pub passed_over : (list : List Ups) (n : ℕ) (line : List ℕ) (lines : List (List ℕ)) (old new : TranscriptState) → is_silent line ≡ true → AreDone (actions_from list (n + 1) lines) old new → AreDone (actions_from list n (line ∷ lines)) old new
-passed_over list n line lines old new silent h =
-    subst (λ (here : List ScriptLine). AreDone (here ++ actions_from list (n + 1) lines) old new) (sym (ap (λ (b : Bool). if b then [] else numbered n (read_line list line)) silent)) h
-
--- a line is done, and then the others
-pub one_done : (list : List Ups) (n : ℕ) (line : List ℕ) (lines : List (List ℕ)) (action : Action) (old mid new : TranscriptState) → is_silent line ≡ false → read_line list line ≡ Some action
-    → IsDone n action old mid → AreDone (actions_from list (n + 1) lines) mid new → AreDone (actions_from list n (line ∷ lines)) old new
-one_done list n line lines action old mid new loud read done h =
-    subst (λ (here : List ScriptLine). AreDone (here ++ actions_from list (n + 1) lines) old new)
-    (sym (ap (λ (b : Bool). if b then [] else numbered n (read_line list line)) loud ∙ ap (numbered n) read)) (mid, done, h)
 
 drop_at : (list : List Ups) (place : ℕ) (ups : Ups) → slice_get list place ≡ Some ups → drop place list ≡ ups ∷ drop (place + 1) list
 drop_at list place ups at = drop_more list place ups (slice_get_within list place ups at) ∙ ap (λ (u : Ups). u ∷ drop (place + 1) list) (get_or_from_slice_get list place ups ups at)

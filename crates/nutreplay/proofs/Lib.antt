@@ -2,3 +2,6 @@ mod Taking
 mod Doing
 mod OneRun
 pub mod ReadBack
+mod Recording
+mod Replayed
+pub mod PublicLaws

@@ -1,12 +1,13 @@
--- A line that is written of an event is read as that event, and so is what is written of many.
-use Rattle.std.proofs.Common.{◌≡◌, ◌∙◌, ℕ, zero, suc, ◌+◌, ◌-◌, ◌<◌, ◌^◌, Bool, true, false, not, ◌&&◌, ◌==◌, cond, eqb, leb, nat_lt, List, [], ◌∷◌, ◌++◌, length, length-append, take, drop, map, Option, Some, None, Result, Ok, Err, is_ok, is_some, get_or, if◌then◌else◌, refl, sym, ap, subst, arith, append_assoc, one-add, lt-ltb, eqb-true, codes, slice_get, position, bytes_eq, is_eq}
+-- A line that is written of an event is read as that event, and so is what is written of many; and
+-- the first lines of a record.
+use Rattle.std.proofs.Common.{◌≡◌, ◌∙◌, ℕ, zero, suc, ◌+◌, ◌-◌, ◌<◌, ◌^◌, Bool, true, false, not, ◌&&◌, ◌||◌, ◌==◌, cond, eqb, leb, nat_le, nat_lt, unwrap_or, List, [], ◌∷◌, ◌++◌, length, length-append, take, drop, map, Option, Some, None, Result, Ok, Err, is_ok, is_some, get_or, if◌then◌else◌, refl, sym, ap, subst, arith, append-nil, append_assoc, one-add, lt-ltb, eqb-true, codes, slice_get, position, bytes_eq, is_eq}
 use Rattle.std.specs.Fmt.{decimal}
 use Rattle.std.specs.List.{list_all, position_or_len, AllPass, AllByRecursion}
 use Rattle.std.specs.List.Sorted.{IsStrictlySortedBy}
-use Rattle.std.specs.Option.{option_map, option_map_or}
+use Rattle.std.specs.Option.{option_and_then, option_map, option_map_or}
 use Rattle.std.specs.Result.{result_ok}
 use Rattle.std.specs.Str.Parse.{AllDigits, digits_value}
-use Rattle.std.proofs.lemmas.Bool.{and_from, and_parts, and_right}
+use Rattle.std.proofs.lemmas.Bool.{and_from, and_parts, and_right, le-leb}
 use Rattle.std.proofs.lemmas.Bool.Decides.{nat_tests}
 use Rattle.std.proofs.lemmas.Fmt.{decimal_digit, decimal_is_IsNumeral, first_decimal}
 use Rattle.std.proofs.lemmas.List.{map-append}
@@ -21,7 +22,7 @@ use Rattle.hex.proofs.HexLemmas.{decode_of-encode_lower, length-encode_with, dec
 use Rattle.nuttracking.specs.Id.{id_text, is_id_byte}
 use Rattle.nuttracking.proofs.PublicLaws.{written_is_read, ids_are_plain}
 use Rattle.nutwords.specs.Bytes.{is_name_byte, is_address_byte}
-use Rattle.nutwords.specs.Natural.{is_digit, is_natural, up_to}
+use Rattle.nutwords.specs.Natural.{is_digit, is_natural, read_natural, up_to}
 use Rattle.nutwords.specs.Reading.{read_text}
 use Rattle.nutwords.specs.Text.{lines_of, is_silent}
 use Rattle.nutwords.specs.declared.faults.BadName.{BadName}
@@ -38,8 +39,10 @@ use Rattle.nutreplay.specs.declared.script.action.Action.TheVariants.{Happens, T
 use Rattle.nutreplay.specs.declared.script.action.Form.TheVariants.{Part, Hex}
 use Rattle.nutreplay.specs.declared.script.action.TheConstants.{UNLISTED}
 use Rattle.nutreplay.specs.Script.{ScriptLine}
-use Rattle.nutreplay.specs.Script.{split_at_space, number, ups_named, ups, with_rest, driver_and_rest, client_and_rest, took, taking, sent, sending, action_of, read_parts, read_line, actions_from, numbered, bad_line_from, is_bad, actions_of, first_bad_line}
-use Rattle.nutreplay.specs.Written.{name_at, verb_of_bytes, line_of, Has, IsEventOf, WhatIsWrittenIsReadBack}
+use Rattle.nutcore.specs.Server.{read_max_age}
+use Rattle.nutcore.specs.declared.max_age.TheConstants.{MAX_AGE_LEAST, MAX_AGE_MOST, MAX_AGE_DEFAULT}
+use Rattle.nutreplay.specs.Script.{split_at_space, age_by, age_in, age_of_lines, asks_nothing, max_age_of, number, ups_named, ups, with_rest, driver_and_rest, client_and_rest, took, taking, sent, sending, action_of, read_parts, read_line, actions_from, numbered, bad_line_from, is_bad, actions_of, first_bad_line}
+use Rattle.nutreplay.specs.Written.{name_at, verb_of_bytes, age_line, comment_line, head_of, is_one_line, line_of, Has, IsEventOf, IsReadAs, AHeadIsRead, WhatIsWrittenIsReadBack}
 
 -- The bytes of a line without LF, and those of a word of it.
 abbrev in_line : ℕ → Bool
@@ -116,11 +119,10 @@ is_word_of_digit b h = grind (arith, nat_tests)
 decimal_word : (n : ℕ) → n < 2 ^ 64 → IsWord (decimal n)
 decimal_word n few = all_more is_digit in_word is_word_of_digit (decimal n) (decimal_digits n few)
 
-number_read : (n : ℕ) → n < 2 ^ 64 → number (decimal n) ≡ Some n
-number_read n few =
-    let within : leb n (2 ^ 64 - 1) ≡ true = grind (arith, nat_tests) in
-    ap (λ (b : Bool). if b then up_to (2 ^ 64 - 1) (digits_value 10 (decimal n)) else None) (by_zero (eqb n 0) refl)
-    ∙ ap (λ (k : ℕ). up_to (2 ^ 64 - 1) k) (decimal_is_IsNumeral n few).1
+natural_read : (most n : ℕ) → n < 2 ^ 64 → leb n most ≡ true → read_natural most (decimal n) ≡ Some n
+natural_read most n few within =
+    ap (λ (b : Bool). if b then up_to most (digits_value 10 (decimal n)) else None) (by_zero (eqb n 0) refl)
+    ∙ ap (λ (k : ℕ). up_to most k) (decimal_is_IsNumeral n few).1
     ∙ ap (λ (b : Bool). if b then Some n else None) within
   where
     by_zero : (b : Bool) → eqb n 0 ≡ b → is_natural (decimal n) ≡ true
@@ -128,6 +130,9 @@ number_read n few =
     by_zero false e =
         let some : 0 < n = grind (arith, nat_tests) in
         natural_of (decimal n) (decimal_digits n few) (first_decimal n some few)
+
+number_read : (n : ℕ) → n < 2 ^ 64 → number (decimal n) ≡ Some n
+number_read n few = natural_read (2 ^ 64 - 1) n few (grind (arith, nat_tests))
 
 -- Names and addresses.
 record IsTextOf (allowed : ℕ → Bool) (bytes : List ℕ) (read : Result (List ℕ) BadName) : Type 0 where
@@ -328,43 +333,129 @@ module _ (list : List Ups) (l : IsList list) where
       one_line list (Id id) (codes "id") (id_text id) refl (word_is_part (id_text id) (all_more is_id_byte in_word is_word_of_id (id_text id) (ids_are_plain.digits id))) refl refl
       (ap (λ o. happens (option_map (λ n. Id n) o)) (written_is_read id few))
 
--- One more line.
-good_then : (list : List Ups) (n : ℕ) (lines : List (List ℕ)) (line : List ℕ) → bad_line_from list n lines ≡ None → is_bad list line ≡ false → bad_line_from list n (lines ++ line ∷ []) ≡ None
-good_then list n [] line good fine = ap (λ b. if b then Some n else None) fine
-good_then list n (first ∷ lines) line good fine = by (is_bad list first) (bad_line_from list (n + 1) lines) (bad_line_from list (n + 1) (lines ++ line ∷ [])) (λ rest. good_then list (n + 1) lines line rest fine) good
+-- A line of an event says no age.
+no_age : (list : List Ups) (line : List ℕ) (a : Action) → read_line list line ≡ Some a → age_in line ≡ None
+unfolding read_line
+no_age list line a read = by (split_at_space line) read
+  where
+    of : (verb text : List ℕ) (b : Bool) → bytes_eq verb (codes "maxage") ≡ b → action_of list verb text ≡ Some a
+        → (if b then option_and_then read_max_age (read_natural MAX_AGE_MOST text) else None) ≡ None
+    of verb text true is read = let bad : action_of list (codes "maxage") text ≡ Some a = ap (λ v. action_of list v text) (sym ((bytes_eq-Decides verb (codes "maxage")).0 is)) ∙ read in cc bad
+    of verb text false is read = refl
+
+    by : (parts : Option (List ℕ × List ℕ)) → read_parts list parts ≡ Some a → age_by parts ≡ None
+    by None read = refl
+    by (Some (verb, text)) read = of verb text (bytes_eq verb (codes "maxage")) refl read
+
+-- One more line, which says no age, and what it asks for wherever it stands.
+abbrev asked : List ScriptLine → List Action
+asked lines = map (λ line. line.action) lines
+
+record AsksFor (list : List Ups) (line : List ℕ) (here : List Action) : Type 0 where
+  part : IsPart line
+  ageless : age_in line ≡ None
+  good : (n : ℕ) → is_bad list n line ≡ false
+  asks : (n : ℕ) → asked (if asks_nothing n line then [] else numbered n (read_line list line)) ≡ here
+
+asks_for_event : (list : List Ups) (e : Event) (one : IsOneLine list e) → AsksFor list one.line (Happens e ∷ [])
+asks_for_event list e one = record {
+  part = one.part;
+  ageless = no_age list one.line (Happens e) one.read;
+  good = λ n. ap (λ o. not (asks_nothing n one.line) && not (is_some o)) one.read ∙ and_right (not (asks_nothing n one.line)) false refl;
+  asks = λ n. ap (λ b. asked (if b then [] else numbered n (read_line list one.line))) (loud n) ∙ ap (λ o. asked (numbered n o)) one.read;
+}
+  where
+    loud : (n : ℕ) → asks_nothing n one.line ≡ false
+    loud n = ap (λ b. b || (n == 1 && is_some (age_in one.line))) one.loud ∙ ap (λ o. n == 1 && is_some o) (no_age list one.line (Happens e) one.read) ∙ and_right (n == 1) false refl
+
+good_then : (list : List Ups) (n : ℕ) (lines : List (List ℕ)) (line : List ℕ) → ((m : ℕ) → is_bad list m line ≡ false) → bad_line_from list n lines ≡ None → bad_line_from list n (lines ++ line ∷ []) ≡ None
+good_then list n [] line fine good = ap (λ b. if b then Some n else None) (fine n)
+good_then list n (first ∷ lines) line fine good = by (is_bad list n first) (bad_line_from list (n + 1) lines) (bad_line_from list (n + 1) (lines ++ line ∷ [])) (good_then list (n + 1) lines line fine) good
   where
     by : (b : Bool) (old new : Option ℕ) → (old ≡ None → new ≡ None) → (if b then Some n else old) ≡ None → (if b then Some n else new) ≡ None
     by true old new step h = h
     by false old new step h = step h
 
-abbrev asked : List ScriptLine → List Action
-asked lines = map (λ line. line.action) lines
-
-asked_then : (list : List Ups) (n : ℕ) (lines : List (List ℕ)) (line : List ℕ) (a : Action) → is_silent line ≡ false → read_line list line ≡ Some a
-    → asked (actions_from list n (lines ++ line ∷ [])) ≡ asked (actions_from list n lines) ++ a ∷ []
-asked_then list n [] line a loud read =
-    ap (λ b. asked ((if b then [] else numbered n (read_line list line)) ++ [])) loud ∙ ap (λ o. asked (numbered n o ++ [])) read
-asked_then list n (first ∷ lines) line a loud read =
-    let here : List ScriptLine = if is_silent first then [] else numbered n (read_line list first) in
+asked_then : (list : List Ups) (n : ℕ) (lines : List (List ℕ)) (line : List ℕ) (here : List Action) → AsksFor list line here
+    → asked (actions_from list n (lines ++ line ∷ [])) ≡ asked (actions_from list n lines) ++ here
+asked_then list n [] line here is = ap asked (append-nil (if asks_nothing n line then [] else numbered n (read_line list line))) ∙ is.asks n
+asked_then list n (first ∷ lines) line here is =
+    let before : List ScriptLine = if asks_nothing n first then [] else numbered n (read_line list first) in
     let rest : List ScriptLine = actions_from list (n + 1) lines in
-    map-append (λ (l : ScriptLine). l.action) here (actions_from list (n + 1) (lines ++ line ∷ []))
-    ∙ ap (λ xs. asked here ++ xs) (asked_then list (n + 1) lines line a loud read)
-    ∙ sym (append_assoc (asked here) (asked rest) (a ∷ []))
-    ∙ ap (λ xs. xs ++ a ∷ []) (sym (map-append (λ (l : ScriptLine). l.action) here rest))
+    map-append (λ (l : ScriptLine). l.action) before (actions_from list (n + 1) (lines ++ line ∷ []))
+    ∙ ap (λ xs. asked before ++ xs) (asked_then list (n + 1) lines line here is)
+    ∙ sym (append_assoc (asked before) (asked rest) here)
+    ∙ ap (λ xs. xs ++ here) (sym (map-append (λ (l : ScriptLine). l.action) before rest))
+
+age_then : (lines : List (List ℕ)) (line : List ℕ) → age_in line ≡ None → age_of_lines (lines ++ line ∷ []) ≡ age_of_lines lines
+age_then [] line none = ap (λ o. unwrap_or o MAX_AGE_DEFAULT) none
+age_then (first ∷ lines) line none = refl
+
+line_then : (list : List Ups) (max_age : ℕ) (script line text : List ℕ) (events more : List Event) → text ≡ line ++ 10 ∷ [] → AsksFor list line (map (λ e. Happens e) more)
+    → IsReadAs list max_age script events → IsReadAs list max_age (script ++ text) (events ++ more)
+unfolding actions_of first_bad_line max_age_of
+line_then list max_age script line text events more is one read =
+    let with_more : (xs : List ℕ) → lines_of (script ++ (text ++ xs)) ≡ lines_of script ++ line ∷ lines_of xs = λ xs.
+    read.whole (text ++ xs) ∙ ap (λ t. lines_of script ++ lines_of (t ++ xs)) is ∙ ap (λ t. lines_of script ++ lines_of t) (append_assoc line (10 ∷ []) xs) ∙ ap (λ ls. lines_of script ++ ls) (first_line line xs one.part) in
+    let lines : lines_of (script ++ text) ≡ lines_of script ++ line ∷ [] = ap (λ t. lines_of (script ++ t)) (sym (append-nil text)) ∙ with_more [] in
+    record {
+      age = ap age_of_lines lines ∙ age_then (lines_of script) line one.ageless ∙ read.age;
+      good = ap (bad_line_from list 1) lines ∙ good_then list 1 (lines_of script) line one.good read.good;
+      actions = ap (λ ls. asked (actions_from list 1 ls)) lines ∙ asked_then list 1 (lines_of script) line (map (λ e. Happens e) more) one
+          ∙ ap (λ xs. xs ++ map (λ e. Happens e) more) read.actions ∙ sym (map-append (λ e. Happens e) events more);
+      whole = λ xs. ap lines_of (append_assoc script text xs) ∙ with_more xs ∙ sym (ap (λ ls. ls ++ lines_of xs) lines ∙ append_assoc (lines_of script) (line ∷ []) (lines_of xs));
+    }
 
 pub what_is_written_is_read_back : WhatIsWrittenIsReadBack
-unfolding actions_of first_bad_line
-what_is_written_is_read_back list script events next l lawful read =
+what_is_written_is_read_back list max_age script events next l lawful read =
     let one = one_line_of list l next lawful in
-    let lines : lines_of (script ++ line_of list next) ≡ lines_of script ++ one.line ∷ [] =
-    read.whole (line_of list next) ∙ ap (λ text. lines_of script ++ lines_of text) one.is ∙ ap (λ ls. lines_of script ++ ls) (first_line one.line [] one.part) in
-    let fine : is_bad list one.line ≡ false = ap (λ o. not (is_silent one.line) && not (is_some o)) one.read ∙ and_right (not (is_silent one.line)) false refl in
+    line_then list max_age script one.line (line_of list next) events (next ∷ []) one.is (asks_for_event list next one) read
+
+-- The first lines of a record.
+age_read : (n : ℕ) → read_max_age n ≡ Some n → n < 2 ^ 64 → option_and_then read_max_age (read_natural MAX_AGE_MOST (decimal n)) ≡ Some n
+age_read n may few =
+    ap (λ o. option_and_then read_max_age o) (natural_read MAX_AGE_MOST n few (within (nat_le MAX_AGE_LEAST n) (nat_le n MAX_AGE_MOST) refl may)) ∙ may
+  where
+    within : (a b : Bool) → nat_le n MAX_AGE_MOST ≡ b → (if a && b then Some n else None) ≡ Some n → nat_le n MAX_AGE_MOST ≡ true
+    within a true is h = is
+    within true false is h = cc h
+    within false false is h = cc h
+
+age_is_read : (list : List Ups) (n : ℕ) → read_max_age n ≡ Some n → n < 2 ^ 64 → IsReadAs list n (age_line n) []
+unfolding actions_of first_bad_line max_age_of
+age_is_read list n may few =
+    let line : List ℕ = codes "maxage" ++ 32 ∷ decimal n in
+    let part : IsPart line = parts_joined (codes "maxage") (32 ∷ decimal n) refl (word_is_part (decimal n) (decimal_word n few)) in
+    let lines : (more : List ℕ) → lines_of (age_line n ++ more) ≡ line ∷ lines_of more = λ more. ap lines_of (append_assoc line (10 ∷ []) more) ∙ first_line line more part in
+    let alone : lines_of (age_line n) ≡ line ∷ [] = first_line line [] part in
+    let age : age_in line ≡ Some n = ap age_by (first_word (codes "maxage") (decimal n) refl) ∙ age_read n may few in
+    let silent : asks_nothing 1 line ≡ true = ap (λ o. is_silent line || is_some o) age in
     record {
-      good = ap (bad_line_from list 1) lines ∙ good_then list 1 (lines_of script) one.line read.good fine;
-      actions = ap (λ ls. asked (actions_from list 1 ls)) lines ∙ asked_then list 1 (lines_of script) one.line (Happens next) one.loud one.read
-          ∙ ap (λ xs. xs ++ Happens next ∷ []) read.actions ∙ sym (map-append (λ e. Happens e) events (next ∷ []));
-      whole = λ more. ap lines_of (append_assoc script (line_of list next) more) ∙ read.whole (line_of list next ++ more)
-          ∙ ap (λ text. lines_of script ++ lines_of (text ++ more)) one.is ∙ ap (λ text. lines_of script ++ lines_of text) (append_assoc one.line (10 ∷ []) more)
-          ∙ ap (λ ls. lines_of script ++ ls) (first_line one.line more one.part)
-          ∙ sym (ap (λ ls. ls ++ lines_of more) lines ∙ append_assoc (lines_of script) (one.line ∷ []) (lines_of more));
+      age = ap age_of_lines alone ∙ ap (λ o. unwrap_or o MAX_AGE_DEFAULT) age;
+      good = ap (bad_line_from list 1) alone ∙ ap (λ b. if not b && not (is_some (read_line list line)) then Some 1 else None) silent;
+      actions = ap (λ ls. asked (actions_from list 1 ls)) alone ∙ ap (λ b. asked ((if b then [] else numbered 1 (read_line list line)) ++ [])) silent;
+      whole = λ more. lines more ∙ sym (ap (λ ls. ls ++ lines_of more) alone);
     }
+
+-- A comment.
+comment_is_read : (list : List Ups) (max_age : ℕ) (script text : List ℕ) → IsPart text → IsReadAs list max_age script [] → IsReadAs list max_age (script ++ comment_line text) []
+comment_is_read list max_age script text part read =
+    line_then list max_age script (35 ∷ 32 ∷ text) (comment_line text) [] [] refl (record {
+      part = part;
+      ageless = ap age_by (first_word (codes "#") text refl);
+      good = λ n. refl;
+      asks = λ n. refl;
+    }) read
+
+pub a_head_is_read : AHeadIsRead
+a_head_is_read list max_age comment lawful = by (is_one_line comment) refl
+  where
+    may : read_max_age max_age ≡ Some max_age
+    may = ap (λ b. if b then Some max_age else None) (and_from (nat_le MAX_AGE_LEAST max_age) (nat_le max_age MAX_AGE_MOST) (le-leb _ _ lawful.0) (le-leb _ _ lawful.1))
+
+    age : IsReadAs list max_age (age_line max_age) []
+    age = age_is_read list max_age may (omega (arith, lawful.1))
+
+    by : (b : Bool) → is_one_line comment ≡ b → IsReadAs list max_age (age_line max_age ++ (if b then comment_line comment else [])) []
+    by true is = comment_is_read list max_age (age_line max_age) comment is age
+    by false is = subst (λ text. IsReadAs list max_age text []) (sym (append-nil (age_line max_age))) age

@@ -3,3 +3,4 @@ pub mod Transcript
 pub mod ReplayFault
 pub mod OneRun
 pub mod Written
+pub mod Recorded

@@ -1,5 +1,5 @@
 -- The events of a script are one run of the server.
-use Rattle.std.specs.Prelude.{◌≡◌, ℕ, false, List, [], ◌∷◌, ◌++◌, map}
+use Rattle.std.specs.Prelude.{◌≡◌, ℕ, false, List, [], ◌∷◌, ◌++◌, None, All, map}
 use Rattle.std.specs.List.{flat_map}
 use Rattle.nutusers.specs.declared.ups_list.UpsId.{UpsId}
 use Rattle.nutusers.specs.UpsList.{Ups}
@@ -10,13 +10,15 @@ use Rattle.nutcore.specs.declared.event.Peer.{Peer}
 use Rattle.nutcore.specs.declared.event.Peer.TheVariants.{Client, Driver}
 use Rattle.nutcore.specs.declared.event.Outcome.{Outcome}
 use Rattle.nutcore.specs.Server.{ServerState, new_server}
+use Rattle.nutcore.specs.Step.{refused_after}
 use Rattle.nutcore.specs.Run.{Run}
 use Rattle.nutcore.specs.History.{taken, answers, owed, is_closed}
 use Rattle.nutcore.specs.DriverOrders.{all_taken as driver_taken}
 use Rattle.nutreplay.specs.declared.script.action.Action.{Action}
 use Rattle.nutreplay.specs.declared.script.action.Action.TheVariants as asked
 use Rattle.nutreplay.specs.Script.{ScriptLine}
-use Rattle.nutreplay.specs.Script.{took, actions_of}
+use Rattle.nutreplay.specs.Script.{took, actions_of, max_age_of}
+use Rattle.nutreplay.specs.Written.{IsReadAs}
 use Rattle.nutreplay.specs.Transcript.{TranscriptState, new_transcript, Happens}
 use Rattle.nutreplay.specs.Transcript.{TakesAgain, all_taken, again, IsDone, AreDone, IsOutput}
 use Rattle.nutreplay.specs.Transcript.{opened_by, count_offered, sent_to}
@@ -81,3 +83,27 @@ AnOutputRecordsOneRun =
     (of_lines (actions_of list script)
     (new_transcript (new_server list users descriptions max_age)) is_output.end is_output.done)
     is_output.end
+
+-- Memory was refused at none of the events.
+abbrev pub HadMemory : List Outcome → Type 0
+HadMemory outcomes = All (λ outcome. refused_after outcome ≡ None) outcomes
+
+-- The transcript records a run of these events. Where memory was refused neither in that nor in the
+-- run with these outcomes, both are one.
+pub record ReplaysRun (start : ServerState) (events : List Event) (outcomes : List Outcome)
+    (new : ServerState) (end : TranscriptState) : Type 0 where
+  pub hs : List Happening
+  pub are : events_of hs ≡ events
+  pub records : RecordsRun start hs end
+  pub same : HadMemory outcomes → HadMemory (outcomes_of hs)
+      → (outcomes_of hs ≡ outcomes) × (end.server ≡ new)
+
+-- The output of what is read as the events of a run, over a new server of the age that it says.
+abbrev pub ARecordReplaysToItsRun : Type 0
+ARecordReplaysToItsRun =
+    (list : List Ups) (users : List User) (descriptions : Descriptions) (max_age : ℕ)
+    (script output : List ℕ) (events : List Event) (outcomes : List Outcome) (new : ServerState)
+    → IsReadAs list max_age script events
+    → Run (new_server list users descriptions max_age) events outcomes new
+    → (is_output : IsOutput (new_server list users descriptions (max_age_of script)) script output)
+    → ReplaysRun (new_server list users descriptions max_age) events outcomes new is_output.end

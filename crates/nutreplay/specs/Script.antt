@@ -1,7 +1,8 @@
 -- What each line of a replay script means.
 use Rattle.std.specs.Prelude.{ℕ, ◌+◌, ◌-◌, ◌^◌, Bool, List, [], ◌∷◌, ◌++◌, Option}
-use Rattle.std.specs.Prelude.{Some, None, ◌==◌, ◌&&◌, if◌then◌else◌, length, take, drop, position, codes, is_some, not}
-use Rattle.std.specs.Option.{option_map, option_map_or}
+use Rattle.std.specs.Prelude.{Some, None, ◌==◌, ◌&&◌, ◌||◌, if◌then◌else◌, length, take, drop, position, codes, is_some, not}
+use Rattle.std.specs.Prelude.{unwrap_or}
+use Rattle.std.specs.Option.{option_and_then, option_map, option_map_or}
 use Rattle.std.specs.Result.{result_ok}
 use Rattle.std.specs.Str.{bytes_eq}
 use Rattle.hex.specs.Hex.{decode_of}
@@ -12,6 +13,8 @@ use Rattle.nutwords.specs.Text.{lines_of, is_silent}
 use Rattle.nutwords.specs.Text.{with_lf}
 use Rattle.nutusers.specs.declared.ups_list.UpsId.{UpsId}
 use Rattle.nutusers.specs.UpsList.{Ups, place_of, id_at}
+use Rattle.nutcore.specs.Server.{read_max_age}
+use Rattle.nutcore.specs.declared.max_age.TheConstants.{MAX_AGE_DEFAULT, MAX_AGE_MOST}
 use Rattle.nutcore.specs.declared.event.Event.{Event}
 use Rattle.nutcore.specs.declared.event.Event.TheVariants.{DriverUp, DriverBytes, DriverTook}
 use Rattle.nutcore.specs.declared.event.Event.TheVariants.{DriverDown, Tick, Open, Feed, Took}
@@ -128,8 +131,27 @@ read_parts list (Some parts) = action_of list parts.0 parts.1
 unfoldable pub read_line : List Ups → List ℕ → Option Action
 read_line list line = read_parts list (split_at_space line)
 
--- The actions of lines that are numbered from here on, each with its line's number. A blank line and a
--- comment ask for nothing.
+-- The greatest age that a line `maxage N` says.
+abbrev pub age_by : Option (List ℕ × List ℕ) → Option ℕ
+age_by None = None
+age_by (Some parts) =
+    if bytes_eq parts.0 (codes "maxage")
+    then option_and_then read_max_age (read_natural MAX_AGE_MOST parts.1) else None
+
+abbrev pub age_in : List ℕ → Option ℕ
+age_in line = age_by (split_at_space line)
+
+-- The greatest age of the server that these lines are for: the first one may say it.
+abbrev pub age_of_lines : List (List ℕ) → ℕ
+age_of_lines [] = MAX_AGE_DEFAULT
+age_of_lines (line ∷ lines) = unwrap_or (age_in line) MAX_AGE_DEFAULT
+
+-- The line of this number, from 1, asks for nothing: it is blank or a comment, or the first line, which
+-- says the greatest age.
+abbrev pub asks_nothing : ℕ → List ℕ → Bool
+asks_nothing n line = is_silent line || (n == 1 && is_some (age_in line))
+
+-- The actions of lines that are numbered from here on, each with its line's number.
 abbrev pub numbered : ℕ → Option Action → List ScriptLine
 numbered n None = []
 numbered n (Some action) = record { number = n; action = action } ∷ []
@@ -137,19 +159,22 @@ numbered n (Some action) = record { number = n; action = action } ∷ []
 abbrev pub actions_from : List Ups → ℕ → List (List ℕ) → List ScriptLine
 actions_from list n [] = []
 actions_from list n (line ∷ lines) =
-    (if is_silent line then [] else numbered n (read_line list line))
+    (if asks_nothing n line then [] else numbered n (read_line list line))
     ++ actions_from list (n + 1) lines
 
-abbrev pub is_bad : List Ups → List ℕ → Bool
-is_bad list line = not (is_silent line) && not (is_some (read_line list line))
+abbrev pub is_bad : List Ups → ℕ → List ℕ → Bool
+is_bad list n line = not (asks_nothing n line) && not (is_some (read_line list line))
 
 abbrev pub bad_line_from : List Ups → ℕ → List (List ℕ) → Option ℕ
 bad_line_from list n [] = None
 bad_line_from list n (line ∷ lines) =
-    if is_bad list line then Some n else bad_line_from list (n + 1) lines
+    if is_bad list n line then Some n else bad_line_from list (n + 1) lines
 
--- What a script asks for over this list of UPSs, and the number of its first bad line. Lines are
--- numbered from 1.
+-- The greatest age of the server that a script is for, what the script asks for over this list of
+-- UPSs, and the number of its first bad line. Lines are numbered from 1.
+unfoldable pub max_age_of : List ℕ → ℕ
+max_age_of script = age_of_lines (lines_of script)
+
 unfoldable pub actions_of : List Ups → List ℕ → List ScriptLine
 actions_of list script = actions_from list 1 (lines_of script)
 

@@ -3,9 +3,11 @@
 #![tactic(auto)]
 
 pub mod laws;
+mod recorder;
 mod replaying;
 mod script;
 mod transcript;
 
+pub use recorder::{Recorder, record_head};
 pub use replaying::{ReplayFault, replay};
-pub use script::{add_line, add_line_of_bytes};
+pub use script::{add_line, add_line_of_bytes, max_age_of};

@@ -13,9 +13,9 @@ mod sent;
 
 use self::sent::{Taken, write_clients, write_drivers};
 use crate::replaying::ReplayFault;
-use crate::script::{Action, read_line, took};
+use crate::script::{Action, asks_nothing, read_line, took};
 use nutcore::{Bytes, ClientId, Event, Fault, Outcome, Peer, Server, UpsId};
-use nutwords::{TextLines, is_silent};
+use nutwords::TextLines;
 use std::alloc::{AllocError, Global};
 use std::marker::Model;
 use std::mem;
@@ -84,7 +84,7 @@ impl<'a> Transcript<'a> {
         let mut number = 0;
         for line in TextLines::of(script) {
             number += 1;
-            if !is_silent(line) {
+            if !asks_nothing(number, line) {
                 let Some(action) = read_line(self.alloc, &list, line)? else {
                     return Err(ReplayFault::BadEvent(number));
                 };

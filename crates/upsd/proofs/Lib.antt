@@ -1,2 +1,3 @@
 mod Commands
 mod Writing
+mod Replayed

@@ -4,6 +4,8 @@ ghost use Rattle.nutusers.specs.UpsFile.{ups_format, adds_ups};
 ghost use Rattle.nutusers.specs.UsersFile.{users_format, adds_to_users};
 ghost use Rattle.nutusers.specs.DescriptionFile.{descriptions_format, adds_text};
 ghost use Rattle.nutusers.specs.Descriptions.{no_descriptions};
+ghost use Rattle.nutcore.specs.Cost.{begun};
+ghost use Rattle.nutcore.specs.Server.{new_server};
 ghost use Rattle.upsd.specs.Files.{AreNamedIn};
 ghost use Rattle.upsd.specs.Configuration.{IsListOf, AreUsersOf, AreDescriptionsOf, AreMeant, FailsBy, FirstFails, IsServerOf};
 
@@ -62,13 +64,34 @@ pub fn server_of<'a, R: FileReader>(
     ensures fails { IfErr result (λ ending.
         FirstFails (R.gives reader.now) files.entry ending ⊎ (ending ≡ Ending.Memory)) }
 {
-    let read = configuration_in(alloc, reader, files)?;
-    let server = Server::new(alloc, read.list, read.users, read.descriptions, max_age);
+    let configuration = configuration_in(alloc, reader, files)?;
+    server_over(alloc, configuration, max_age)
+}
+
+/// A server of this configuration, with this greatest age.
+///
+/// # Errors
+///
+/// `Memory`.
+pub fn server_over<'a>(
+    alloc: Global,
+    of: Configuration,
+    max_age: MaxAge,
+) -> Result<Server, Ending<'a>>
+    ensures serves { IfOk result (λ server.
+        server ≡ begun (new_server of.list of.users of.descriptions max_age)) }
+    ensures fails { IfErr result (λ ending. ending ≡ Ending.Memory) }
+{
+    let server = Server::new(alloc, of.list, of.users, of.descriptions, max_age);
     server.map_err(|_| Ending::Memory)
 }
 
 /// What these files mean. Each file is read and judged before the next one is opened.
-fn configuration_in<'a, R: FileReader>(
+///
+/// # Errors
+///
+/// The first file that can't be read or is refused; `Memory`.
+pub fn configuration_in<'a, R: FileReader>(
     alloc: Global,
     reader: &R,
     files: Files<'a>,

@@ -22,6 +22,7 @@ mod task;
 mod warnings;
 
 use crate::ending::{Ending, print_ending, status_of};
+use crate::files::Configuration;
 use crate::replaying::replay_files;
 use crate::serve::serve_files;
 use crate::task::{DEFAULT_ADDRESS, RECORD_MIB_MOST, Task, task_of};
@@ -29,7 +30,7 @@ use crate::warnings::warn;
 use clap::builder::ValueParser;
 use clap::{ArgMatches, Command, Error};
 use nutcommand::{Word, hold_standard_streams, print_refusal, with_words, words, words_of};
-use nutcore::{MAX_AGE_LEAST, MAX_AGE_MOST, Server};
+use nutcore::{MAX_AGE_LEAST, MAX_AGE_MOST};
 use nutio::CountedWriter;
 use nutversion::VERSION;
 use std::alloc::{AllocError, Global};
@@ -146,9 +147,9 @@ fn run<'a>(rt: &HostRuntime, matches: &ArgMatches<'a>) -> Result<(), Ending<'a>>
         Some(Task::Replay(files, script)) => {
             let mut out = CountedWriter::new(io::writer(rt));
             // This script only has the files judged.
-            let judge = |server: &Server| {
+            let judge = |read: &Configuration| {
                 if script == "/dev/null" {
-                    warn(rt, files, server.ups(), server.users());
+                    warn(rt, files, &read.list, &read.users);
                 }
             };
             replay_files(rt.alloc(), rt, files, script, &mut out, judge)

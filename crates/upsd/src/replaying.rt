@@ -1,26 +1,25 @@
 //! Replaying a script over what the configuration files mean.
-ghost use Rattle.std.specs.Prelude.{◌≡◌, ◌⊎◌, MatchResult, OnOk, IfErr, Ok, Err};
+ghost use Rattle.std.specs.Prelude.{◌≡◌, ◌⊎◌, OnOk, IfErr, Ok, Err};
 ghost use Rattle.nutreplay.specs.declared.replaying.ReplayFault.{ReplayFault};
 ghost use Rattle.upsd.specs.Ending.{ending_of_replay};
-ghost use Rattle.upsd.specs.Reading.{CantBeRead};
-ghost use Rattle.upsd.specs.Replaying.{Replays, ReplaysOver, FailsBefore};
+ghost use Rattle.upsd.specs.Replaying.{EndsOver, EndsReplay, FailsBefore, Replays};
 
 use crate::ending::{Ending, ended};
-use crate::files::{Files, server_of};
+use crate::files::{Configuration, Files, configuration_in, server_over};
 use crate::reading::{FileReader, read_script};
-use nutcore::{MAX_AGE_DEFAULT, MaxAge, Server};
+use nutcore::Server;
 use nutio::Sink;
-use nutreplay::replay;
+use nutreplay::{max_age_of, replay};
 use std::alloc::Global;
 
 /// `upsd replay`: replays the script of the file over the UPSs, users and descriptions of theirs,
-/// except for a last line that was cut.
+/// except for a last line that was cut. The greatest age is that of the script.
 /// The caller is shown what they mean before the script is read.
 ///
 /// # Errors
 ///
 /// The first file that can't be read or is refused, the script last; `BadEvent`; `Memory`; `Write`.
-pub fn replay_files<'a, R: FileReader, W: Sink, J: FnOnce(&Server)>(
+pub fn replay_files<'a, R: FileReader, W: Sink, J: FnOnce(&Configuration)>(
     alloc: Global,
     reader: &R,
     files: Files<'a>,
@@ -37,28 +36,37 @@ pub fn replay_files<'a, R: FileReader, W: Sink, J: FnOnce(&Server)>(
         × Replays W.contents W.failures
         (R.gives reader.now) files.entry script.entry out.old (Err fault) out.new)) }
 {
-    let max_age = MaxAge::read(MAX_AGE_DEFAULT).unwrap();
-    let mut server = server_of(alloc, reader, files, max_age)?;
-    judge(&server);
-    replay_over(alloc, reader, &mut server, script, out)
+    let configuration = configuration_in(alloc, reader, files)?;
+    judge(&configuration);
+    replay_over(alloc, reader, configuration, script, out)
 }
 
-/// Replays the script of the file over this server.
+/// Replays the script of the file over a new server of this configuration.
 fn replay_over<'a, R: FileReader, W: Sink>(
     alloc: Global,
     reader: &R,
-    server: &mut Server,
+    of: Configuration,
     script: &'a str,
     out: &mut W,
 ) -> Result<(), Ending<'a>>
-    ensures { MatchResult result
-        (λ _. ReplaysOver W.contents W.failures
-        (R.gives reader.now) server.old.state script.entry out.old (Ok tt) out.new)
-        (λ ending. (CantBeRead (R.gives reader.now) script.entry ending × (out.new ≡ out.old))
-        ⊎ ((fault : ReplayFault) × (ending ≡ ending_of_replay script.entry fault)
-        × ReplaysOver W.contents W.failures
-        (R.gives reader.now) server.old.state script.entry out.old (Err fault) out.new)) }
+    ensures { EndsOver W.contents W.failures
+        (R.gives reader.now) of script.entry out.old result out.new }
 {
     let lines = read_script(reader, script)?;
-    ended(script, replay(alloc, server, &lines, out))
+    let mut server = server_over(alloc, of, max_age_of(&lines))?;
+    replay_lines(alloc, &mut server, script, &lines, out)
+}
+
+/// Replays these lines of a script over this server.
+fn replay_lines<'a, W: Sink>(
+    alloc: Global,
+    server: &mut Server,
+    script: &'a str,
+    lines: &[u8],
+    out: &mut W,
+) -> Result<(), Ending<'a>>
+    ensures { EndsReplay W.contents W.failures
+        server.old.state lines.now script.entry out.old result out.new }
+{
+    ended(script, replay(alloc, server, lines, out))
 }

@@ -12,17 +12,18 @@ ghost use Rattle.upsd.specs.Recorded.{ServesRecorded};
 use crate::ending::Ending;
 use crate::files::{Files, server_of};
 use crate::reading::{create, open};
-use crate::recorded::{Recorded, Recorder, Served};
+use crate::recorded::{Recorded, Served};
 use crate::task::Service;
 use crate::warnings::{warn, warn_of_record};
-use nutcore::Server;
+use nutcore::{MaxAge, Server};
 use nutio::{CountedWriter, Sink, send};
 use nutjournal::Journal;
 use nutloop::{MioSockets, Sockets};
+use nutreplay::{Recorder, record_head};
 use nutversion::VERSION;
 use std::alloc::Global;
 use std::fs::File;
-use std::io::{Error, ErrorKind, Write};
+use std::io::{Error, ErrorKind};
 use std::net::SocketAddr;
 use std::time::{SystemTime, UNIX_EPOCH};
 use std::{env, io};
@@ -75,7 +76,13 @@ fn serve<'a>(
     let address = service.address;
     match MioSockets::new(rt, rt.alloc(), address, server, ids, service.nut_bytes) {
         Ok(mut sockets) => match file_for_record(rt, files.to_record) {
-            Some(file) => match recorder_in(rt, server, file, service.record_limit) {
+            Some(file) => match recorder_in(
+                rt,
+                server,
+                file,
+                service.max_age,
+                service.record_limit,
+            ) {
                 Ok(recorder) => {
                     let mut sockets = Recorded { sockets, recorder };
                     serve_recorded(rt, server, &mut sockets, files, service)
@@ -101,38 +108,33 @@ fn file_for_record(rt: &HostRuntime, path: Option<&str>) -> Option<File> {
     }
 }
 
-/// A recorder of at most so many MiB in this file, which begins with a comment.
+/// A recorder of at most so many MiB in this file. Its head has the greatest age, and a comment.
 fn recorder_in<'a>(
     rt: &HostRuntime,
     server: &Server,
-    mut file: File,
+    file: File,
+    max_age: MaxAge,
     mebibytes: u64,
 ) -> Result<Recorder<CountedWriter<File>>, Ending<'a>>
     ensures { IfErr result (λ ending. ending ≡ Ending.Memory) }
 {
     let list = server.ups().share().map_err(|_| Ending::Memory)?;
-    // After a cut head nothing is written.
-    let has_head = write_head(rt, &mut file).is_ok();
-    let limit = if has_head {
-        mebibytes.saturating_mul(1 << 20)
-    } else {
-        0
-    };
-    Ok(Recorder::new(rt.alloc(), list, CountedWriter::new(file), limit))
+    let comment = comment(rt).unwrap_or(String::new(rt.alloc()));
+    let head = record_head(rt.alloc(), max_age, &comment).ok_or(Ending::Memory)?;
+    let limit = mebibytes.saturating_mul(1 << 20);
+    Ok(Recorder::new(list, head, CountedWriter::new(file), limit))
 }
 
-/// Writes the first line of a record: the version, the second since 1970, and the words of the
-/// command.
-fn write_head(rt: &HostRuntime, file: &mut File) -> io::Result<()> {
+/// What made a record: the version, the second since 1970, and the words of the command.
+fn comment(rt: &HostRuntime) -> io::Result<String> {
     let now = SystemTime::now(rt)?.duration_since(UNIX_EPOCH);
     let seconds = now.map_or(0, |since| since.as_secs());
-    let mut head = format!(in rt.alloc(); "# Voqarchay {VERSION} at {seconds}:")?;
+    let mut comment = format!(in rt.alloc(); "Voqarchay {VERSION} at {seconds}:")?;
     for word in env::args(rt)? {
         let word = word.as_bytes().escape_ascii();
-        head.push_str(format!(in rt.alloc(); " {word}")?.as_str())?;
+        comment.push_str(format!(in rt.alloc(); " {word}")?.as_str())?;
     }
-    head.push_str("\n")?;
-    file.write_all(head.as_bytes())
+    Ok(comment)
 }
 
 /// Serves over these sockets, and then writes what waits of the record.

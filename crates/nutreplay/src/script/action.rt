@@ -204,7 +204,7 @@ fn ups(list: &UpsList, text: &[u8]) -> Option<UpsId>
 }
 
 /// The bytes before the first space and those after it.
-fn split_at_space(line: &[u8]) -> Option<(&[u8], &[u8])>
+pub(super) fn split_at_space(line: &[u8]) -> Option<(&[u8], &[u8])>
     ensures { MatchOption result (split_at_space line.now ≡ None)
         (λ p. split_at_space line.now ≡ Some (p.0.now, p.1.now)) }
 {
