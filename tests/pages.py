@@ -43,9 +43,9 @@ MESSAGES = [
     (JOURNAL, r'^    \("([a-z].*)", (?:true|false)\),', r"\1: N"),
     ("crates/upsd/src/reading.rt", r'"upsd: \{path\}:\{number\}: (.*)"\)', r"PATH:LINE: \1"),
     (JOURNAL, r'format_args!\("(lines .*): \{count\}, the last one"\);', r"su: \1: N, the last one: REASON"),
-    (JOURNAL, r'format_args!\("\{who\} (logged out)"\)', r"su: mon@192.0.2.1 \1"),
-    (JOURNAL, r'Verb::.* => \(".*", "(.*?)(?<=ordered) [A-Z ]+", .*\),', r"su: mon@192.0.2.1 \1 COMMAND"),
-    (JOURNAL, r'Verb::.* => \(".*", "((?!ordered [A-Z ]+").*)", .*\),', r"su: mon@192.0.2.1 \1"),
+    (JOURNAL, r'format_args!\("\{who\} (logged .*)"\)', r"su: mon@192.0.2.1 \1"),
+    (JOURNAL, r'format_args!\("\{who\} (ordered) \{command\}\{space\}.*"\)', r"su: mon@192.0.2.1 \1 COMMAND"),
+    (JOURNAL, r'format_args!\("\{who\} (ordered) \{command\}(:.*)"\)', r"su: mon@192.0.2.1 \1 FSD\2"),
     (JOURNAL, r'format_args!\("\{who\} (was .*) \{command\}.*"\);', r"su: mon@192.0.2.1 \1 COMMAND: WORD"),
 ]
 FORMS = {"0": "PATH", "1": "LINE", "2": "N", "count": "N", "error": "ERROR", "status": "STATUS", "more": "N KIND, ..", "state": "DATA", "address": "192.0.2.1"}

@@ -235,15 +235,6 @@ def parts_of(server, line, kind):
             sum(int(count.split(" ", 1)[0]) for count in counted if re.fullmatch(kind, count.split(" ", 1)[1])))
 
 
-def flip(driver, good, count, *lines):
-    """The driver sends the lines in turn, each once the client has seen what the one before changed."""
-    for line in lines * count:
-        seen = good.ask(GET)
-        driver.send(line)
-        while good.ask(GET) == seen:
-            pass
-
-
 def log_in_and_out(server):
     for _ in range(100):
         client = server.client()
@@ -261,9 +252,9 @@ def guess(server):
 def of_a_flood_each_line_is_logged_or_counted():
     """Few are logged, whatever floods the journal. a_driver_that_comes_and_goes_is_logged_once_a_minute has one more."""
     for flood, *wanted in [
-            (lambda server, driver, good: flip(driver, good, 100, b'SETINFO ups.status "OB"\n', b'SETINFO ups.status "OL"\n'),
+            (lambda server, driver, good: driver.send(b'SETINFO ups.status "OB"\nSETINFO ups.status "OL"\n' * 100),
              ("status OB", "status with OB or LB", 100), ("status OL", "status", 101)),
-            (lambda server, driver, good: flip(driver, good, 100, b"DATASTALE\n", b"DATAOK\n"), ("data stale", "data stale", 100), ("data good", "data good", 101)),
+            (lambda server, driver, good: driver.send(b"DATASTALE\nDATAOK\n" * 100), ("data stale", "data stale", 100), ("data good", "data good", 101)),
             (lambda server, *_: log_in_and_out(server), ("mon@127.0.0.1 logged in", "logged in", 100), ("mon@127.0.0.1 logged out", "logged out", 100)),
             (lambda server, *_: guess(server), ("mon@127.0.0.1 was refused LOGIN: ACCESS-DENIED", "refused LOGIN", 800))]:
         with served() as (server, driver, good):
@@ -286,8 +277,7 @@ def what_matters_most_is_logged_in_a_flood():
             assert guess_at.ask(b"LOGIN su\n" * 50).count(b"ERR") == 50
             assert good.ask(b"INSTCMD su test.battery.start\n" * 50) == b"OK\n" * 50
             assert good.ask(b"FSD su\n") == b"OK FSD-SET\n"
-            flip(driver, good, 10, b'SETINFO ups.status "OL CHRG"\n', b'SETINFO ups.status "OL"\n')
-            driver.send(b'SETINFO ups.status "OB LB"\n')
+            driver.send(b'SETINFO ups.status "OL CHRG"\nSETINFO ups.status "OL"\n' * 10 + b'SETINFO ups.status "OB LB"\n')
             time.sleep(1.1)
             driver.send(b'SETINFO ups.status "OL"\n')
         for line in ("status OB LB", "admin@127.0.0.1 ordered FSD: forced shutdown"):
@@ -442,6 +432,16 @@ def each_change_of_the_status_is_logged():
         logs(server, "status OB", "status OB LB", *["status OL"] * 2)
 
 
+def what_is_undone_in_the_same_write_is_logged():
+    with served() as (server, driver, _):
+        driver.send(b'SETINFO ups.status "OB LB"\nSETINFO ups.status "OL"\n')
+        logs(server, "status OB LB", "status OL")
+        time.sleep(1)
+        driver.send(b"DATASTALE\nDATAOK\nSETINFO\n" + b'SETINFO ups.status "OB"\nSETINFO ups.status "OL"\n' * 2)
+        lines = ["data stale", "data good", *["status OB", "status OL"] * 2]
+        logs(server, *lines, "lines of the driver refused: 1, the last one: malformed line")
+
+
 def a_driver_that_never_reports_all_is_logged_as_stale():
     driver = Driver(path("slow.sock"))
     with begun(file("slow.conf", f"[su]\nsocket = {driver.path}\n"), "--users", path("users"), "--maxage", "3") as server:
@@ -580,8 +580,8 @@ def worst_wait(client, count):
 
 def nobody_waits_for_slow_readers():
     with served(many(MANY, 256)) as (server, _, good):
-        before = server.kilobytes("VmData")
-        assert EMULATED or before < 2900, f"{before} KB for {MANY} values of 256 bytes"
+        before = server.kilobytes("VmData")  # 1,100 of it are room for the notes of one event, touched only by what is noted.
+        assert EMULATED or before < 3500, f"{before} KB for {MANY} values of 256 bytes"
         slow = [server.client() for _ in range(63)]
         for client in slow:
             client.send(b"LIST VAR su\n" * 8)

@@ -10,12 +10,11 @@ use Rattle.nutwords.specs.Lines.{Tail, IsCutInto, line as one_line, unfinished, 
 use Rattle.nutwords.specs.WholeLines.{joined, whole_lines, unfinished_after, is_too_long, tail_after}
 use Rattle.nutwords.proofs.PublicLaws.{first_line_is_cut_off, no_line_without_lf, whole_lines_are_the_cut, whole_lines_and_the_rest_are_all}
 use Rattle.nutcore.specs.Reports.{with_end, is_unawaited}
-use Rattle.nutcore.specs.Ups.{UpsState, after_connecting, after_loss, greatest_count, after_outcome, after_text, after_texts, with_unfinished}
+use Rattle.nutcore.specs.Ups.{UpsState, after_connecting, after_loss, greatest_count, after_outcome, after_text, after_texts, with_unfinished, as_far, ups_after_text, ups_after_bytes}
 use Rattle.nutcore.specs.Headline.{IsBeginning}
 use Rattle.nutcore.specs.Sound.{Each}
-use Rattle.nutcore.specs.DriverHistory.{Heard, heard_at, as_far, bytes_heard, after_heard, refusals, IsWholeLine, CountsRefused, IsHeard}
+use Rattle.nutcore.specs.DriverHistory.{Heard, heard_at, bytes_heard, after_heard, refusals, IsWholeLine, CountsRefused, IsHeard}
 use Rattle.nutcore.specs.DriverOrders.{ServerLine, texts_of}
-use Rattle.nutcore.proofs.DriverText.{ups_after_text, ups_after_bytes}
 
 -- counts: what one is at most, and one after two lists of lines
 pub count_is_few : (a b most : ℕ) → b ≡ min a most → b ≤ most

@@ -1,15 +1,19 @@
 -- Each event of a driver, over plain states.
-use Rattle.std.proofs.Common.{◌≡◌, ℕ, zero, suc, ◌<◌, Bool, true, false, List, [], ◌∷◌, Option, Some, None, Result, refl, sym, ◌∙◌, ap, arith, length, max, map, take, drop, ◌++◌, set, get_or, inl, cond}
+use Rattle.std.proofs.Common.{◌≡◌, ℕ, zero, suc, ◌<◌, Bool, true, false, List, [], ◌∷◌, Option, Some, None, Result, refl, sym, subst, ◌∙◌, ap, arith, length, max, map, take, drop, ◌++◌, set, get_or, inl}
 use Rattle.std.proofs.lemmas.Bool.Decides.{nat_tests}
-use Rattle.nutcore.proofs.Common.{option_map, option_map_or, cond-true, slice_get_within, UpsId, Fault, ServerState, ups_at, with_ups_changed}
+use Rattle.nutcore.proofs.Common.{option_map, option_map_or, cond-true, slice_get_within, UpsId, TrackingState, Fault, ServerState, ups_at, with_ups_changed, with_tracking}
 use Rattle.nutcore.specs.declared.event.Event.TheVariants.{DriverUp, DriverBytes, DriverTook, DriverDown, Tick}
 use Rattle.nutcore.specs.declared.event.Outcome.TheVariants.{Done, Refused}
 use Rattle.nutcore.specs.declared.event.Fault.TheVariants.{NoSuchUps, AlreadyConnected}
-use Rattle.nutcore.specs.Ups.{UpsState, after_connecting, after_loss, after_tick}
-use Rattle.nutcore.specs.Step.{Step, connected, disconnected, after_driver_text, after_driver_bytes, after_driver_took, ticked, connected_by, outcome_of, after_by, MayLackMemory}
+use Rattle.nutwords.specs.WholeLines.{whole_lines}
+use Rattle.nutcore.specs.declared.note.Note.{Note}
+use Rattle.nutcore.specs.Notes.{of_ups_notes, notes_of}
+use Rattle.nutcore.specs.Reports.{after_ends}
+use Rattle.nutcore.specs.Ups.{UpsState, after_connecting, after_loss, after_tick, as_far, ups_after_bytes}
+use Rattle.nutcore.specs.Step.{Step, MayAnswer, connected, disconnected, after_driver_bytes, after_driver_took, lines_read, ticked, connected_by, outcome_of, after, after_by, refused_after, MayLackMemory}
 use Rattle.nutcore.specs.Calls.{is_connected, done}
-use Rattle.nutcore.specs.Promises.{OfUps, IsTaken, HasReported, IsNotConnected}
-use Rattle.nutcore.proofs.UpsPlaces.{Stands, of_ups, server_agree, changed_to}
+use Rattle.nutcore.specs.Promises.{OfUps, IsTaken, Reports, IsAnswered, IsNotConnected}
+use Rattle.nutcore.proofs.UpsPlaces.{Stands, of_ups, there_is, server_agree, server_set, changed_to}
 use Rattle.nutcore.proofs.Events.{refused}
 
 -- what its connection says of a UPS
@@ -55,15 +59,6 @@ pub bytes_refused : (s : ServerState) (u : UpsId) (piece : List ℕ) (fault : Fa
 unfolding outcome_of
 bytes_refused s u piece fault h = grind (arith, refused s (DriverBytes u piece) fault)
 
--- a piece is after what was unfinished
-bytes_told : (s : ServerState) (u : UpsId) (piece : List ℕ) (m : Option ℕ) (x : UpsState) → ups_at u.place s ≡ Some x → x.report.connected ≡ true → after_driver_text u (x.unfinished ++ piece) m s ≡ after_driver_bytes u piece m s
-unfolding after_driver_bytes
-bytes_told s u piece m x there is = sym (ap (λ (o : Option UpsState). option_map_or (λ x. cond x.report.connected (after_driver_text u (x.unfinished ++ piece) m s) s) o s) there ∙ cond-true _ _ _ is)
-
-pub bytes_fed : (s t : ServerState) (u : UpsId) (piece : List ℕ) (r : Result (Unit {0}) Fault) → IsThere s u true → OfUps u s (λ x. HasReported u (x.unfinished ++ piece) s r t) → Step s (DriverBytes u piece) (done r) t
-unfolding outcome_of after_by MayLackMemory
-bytes_fed s t u piece r h told = let at = told h.ups h.there in grind (arith, bytes_told)
-
 -- a driver took of what it is owed
 pub took_refused : (s : ServerState) (u : UpsId) (n : ℕ) (fault : Fault) → IsNotConnected u fault s → Step s (DriverTook u n) (Refused fault) s
 unfolding outcome_of
@@ -75,6 +70,69 @@ took_taken s t u n x y r h there taken leaves =
     let is = connected_as s u x h there in
     let to = λ (e : y ≡ after_driver_took n x). changed_to s t u (after_driver_took n) x y there e leaves in
     grind (arith, nat_tests)
+
+-- a UPS in place of the one that stands there
+abbrev pub in_place : ServerState → UpsId → UpsState → ServerState
+in_place s u y = record s { upses = set s.upses u.place y }
+
+pub up_in_place : (s : ServerState) (u : UpsId) (x y : UpsState) → ups_at u.place s ≡ Some x → x.report.connected ≡ false → y ≡ after_connecting s.moment x → Step s (DriverUp u) Done (in_place s u y)
+up_in_place s u x y there gone e = up_done s (in_place s u y) u (record { ups = x; there = there; is = gone }) (server_set s u (after_connecting s.moment) x y there e)
+
+pub down_in_place : (s : ServerState) (u : UpsId) (x y : UpsState) → ups_at u.place s ≡ Some x → x.report.connected ≡ true → y ≡ after_loss x → Step s (DriverDown u) Done (in_place s u y)
+down_in_place s u x y there is e = down_done s (in_place s u y) u (record { ups = x; there = there; is = is }) (server_set s u after_loss x y there e)
+
+pub took_in_place : (s : ServerState) (u : UpsId) (n : ℕ) (x y : UpsState) (r : Result (Unit {0}) Fault) → ups_at u.place s ≡ Some x → x.report.connected ≡ true → IsTaken n x r y → Step s (DriverTook u n) (done r) (in_place s u y)
+took_in_place s u n x y r there is taken = took_taken s (in_place s u y) u n x y r (record { ups = x; there = there; is = is }) there taken (server_set s u (λ z. y) x y there refl)
+
+-- what it reported, and what is noted of it
+pub bytes_in_place : (s : ServerState) (u : UpsId) (piece : List ℕ) (x y : UpsState) (r : Result (Unit {0}) Fault) (n n' : List Note) (t : TrackingState) → ups_at u.place s ≡ Some x → x.report.connected ≡ true
+    → Reports s.max_age s.moment u (x.unfinished ++ piece) x s.tracking n r y t n' → Step s (DriverBytes u piece) (done r) (with_tracking t (in_place s u y))
+unfolding outcome_of after_by MayLackMemory after_driver_bytes lines_read
+bytes_in_place s u piece x y r n n' t there is h = record { allowed = allowed r h.answers; leaves = leaves }
+  where
+    m : Option ℕ
+    m = refused_after (done r)
+
+    allowed : (r : Result (Unit {0}) Fault) → IsAnswered s.moment u.place s.tracking (x.unfinished ++ piece) x r → MayAnswer s (DriverBytes u piece) (done r)
+    allowed r answers = grind arith
+
+    leaves : with_tracking t (in_place s u y) ≡ after s (DriverBytes u piece) (done r)
+    leaves =
+        let f : UpsState → UpsState = ups_after_bytes s.moment u.place s.tracking piece m in
+        let same : y ≡ f x = h.leaves ∙ sym (cond-true _ _ _ is) in
+        let lines : lines_read u piece m s ≡ as_far m (whole_lines (x.unfinished ++ piece)) = rw (there, is) refl in
+        ap (with_tracking t) (server_set s u f x y there same) ∙ ap (λ (k : TrackingState). with_tracking k (with_ups_changed f u s)) (h.settles ∙ ap (λ (z : List (List ℕ)). after_ends u.place z s.tracking) (sym lines))
+
+pub bytes_noted : (s : ServerState) (u : UpsId) (piece : List ℕ) (x y : UpsState) (r : Result (Unit {0}) Fault) (n n' : List Note) (t : TrackingState) → ups_at u.place s ≡ Some x → x.report.connected ≡ true
+    → n ≡ [] → Reports s.max_age s.moment u (x.unfinished ++ piece) x s.tracking n r y t n' → n' ≡ notes_of s (DriverBytes u piece) (done r)
+bytes_noted s u piece x y r n n' t there is none h = h.notes_it ∙ rw (there, is, none) refl
+
+-- the UPS of an event, as it stands in the code
+pub record Stood (v : ServerState) (u : UpsId) (x : UpsState) (b : Bool) : Type 0 where
+  pub there : ups_at u.place v ≡ Some x
+  pub is : x.report.connected ≡ b
+
+pub stood_within : (v s : ServerState) (u : UpsId) (b : Bool) → v ≡ s → IsThere s u b → u.place < length v.upses
+stood_within v s u b same h = subst (λ (z : ServerState). u.place < length z.upses) (sym same) (there_within s u b h)
+
+pub stood : (v s : ServerState) (u : UpsId) (x : UpsState) (b : Bool) → v ≡ s → IsThere s u b → x ≡ get_or v.upses u.place x → Stood v u x b
+stood v s u x b same h at =
+    let there : ups_at u.place v ≡ Some x = there_is v.upses u.place x (stood_within v s u b same h) at in
+    record { there = there; is = of_ups s u h.ups (λ y. y.report.connected ≡ b) h.there h.is x (ap (ups_at u.place) (sym same) ∙ there) }
+
+-- where nothing is noted of it
+pub nothing_noted : (u : UpsId) (s : ServerState) (notes : UpsState → List Note) → OfUps u s (λ x. notes x ≡ []) → of_ups_notes u s notes ≡ []
+nothing_noted u s notes none = by_ups (ups_at u.place s) none
+  where
+    by_ups : (o : Option UpsState) → ((x : UpsState) → o ≡ Some x → notes x ≡ []) → option_map_or notes o [] ≡ []
+    by_ups None none = refl
+    by_ups (Some x) none = none x refl
+
+pub unconnected_silent : (u : UpsId) (s : ServerState) (fault : Fault) (notes : UpsState → List Note) → ((x : UpsState) → x.report.connected ≡ false → notes x ≡ []) → IsNotConnected u fault s → of_ups_notes u s notes ≡ []
+unconnected_silent u s fault notes none h = nothing_noted u s notes (λ x there. none x (gone x there h))
+  where
+    gone : (x : UpsState) → ups_at u.place s ≡ Some x → IsNotConnected u fault s → x.report.connected ≡ false
+    gone x there h = grind arith
 
 -- the clock
 pub tick_done : (s t : ServerState) (seconds : ℕ) → t ≡ ticked seconds s → Step s (Tick seconds) Done t

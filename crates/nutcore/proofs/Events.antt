@@ -3,18 +3,21 @@ use Rattle.std.proofs.Common.{◌≡◌, ℕ, Bool, true, false, List, [], ◌�
 use Rattle.nutcore.proofs.Common.{option_map_or, UpsId, TrackingState, Event, ServerState, session, ups_at, slice_get, option_map, slice_get-map, Outcome, SessionState, cond-false, Fault, UpsState, after, take-append-drop}
 use Rattle.nutcore.specs.declared.event.Event.TheVariants.{DriverUp, DriverBytes, DriverTook, DriverDown, Tick, Open, Feed, Took, Close, Id}
 use Rattle.nutcore.specs.Session.{without}
-use Rattle.nutcore.specs.Ups.{ping_is_due, after_tick, after_loss, after_connecting, ping_line}
-use Rattle.nutcore.specs.Step.{with_input, without_output, may_take, may_open, after_by, ticked, connected, disconnected, after_driver_took, opened, pumped_until, handed_in, joined, driver_may_take, refused_after, Step, outcome_of, after_driver_bytes, connected_by, driver_took_by, disconnected_by, after_driver_text, driver_bytes_by, fed_by, took_by, closed_by, accepted, id_outcome}
+use Rattle.nutcore.specs.Ups.{ping_is_due, after_tick, after_loss, after_connecting, ping_line, ups_after_bytes, lines_of}
+use Rattle.nutcore.specs.Reports.{after_ends}
+use Rattle.nutcore.specs.Step.{with_input, without_output, may_take, may_open, after_by, ticked, connected, disconnected, after_driver_took, opened, pumped_until, handed_in, joined, driver_may_take, refused_after, Step, outcome_of, after_driver_bytes, connected_by, driver_took_by, disconnected_by, driver_bytes_by, fed_by, took_by, closed_by, accepted, id_outcome}
 use Rattle.nutcore.specs.Isolation.{client_of, ups_of, is_harmless}
 use Rattle.nutcore.specs.History.{Execution, executions_until, executions_by, taken_in_event, asked_in_event}
 use Rattle.nutcore.specs.Cost.{cost_of, no_cost}
 use Rattle.nutcore.specs.DriverHistory.{has_driver, came_in_event, heard_in_event}
 use Rattle.nutcore.specs.DriverOrders as telling
 use Rattle.nutcore.specs.DriverOrders.{ServerLine, dump_all, ping, given_beside_lines, moment_of, given_in_event, texts_of}
-use Rattle.nutcore.proofs.DriverText.{ups_after_bytes, changed_both, lines_read, bytes_change}
+use Rattle.nutcore.specs.Server.{with_tracking, with_ups_changed}
+use Rattle.nutcore.specs.Step.{changed_both, lines_read}
+use Rattle.nutcore.proofs.DriverText.{bytes_change}
 use Rattle.nutcore.specs.Pump.{after_all_lines, is_overlong, pumped}
 use Rattle.nutcore.proofs.Changed.{input_absent, of_opened}
-use Rattle.nutcore.proofs.UpsPlaces.{Stands, of_place, server_same}
+use Rattle.nutcore.proofs.UpsPlaces.{Stands, of_ups, of_place, server_same}
 use Rattle.nutcore.proofs.DriverChanges.{Does, stays_so, bytes_do, lost, unconnected, goes_on}
 use Rattle.std.specs.Prelude.{nat_le}
 use Rattle.nutcore.specs.declared.event.Outcome.TheVariants.{Done, Opened, Refused, Fed}
@@ -137,8 +140,23 @@ up_stays now x b h = grind arith
 took_stays : (x y : UpsState) (b d : Bool) → is_quiet (cond (not b) (Refused NotConnected) (cond d Done (Refused TookTooMuch))) ≡ true → cond (b && d) y x ≡ x
 took_stays x y b d h = grind arith
 
-bytes_stay : (s : ServerState) (u : UpsId) (piece : List ℕ) (o : Option UpsState) → is_quiet (driver_bytes_by piece o) ≡ true → option_map_or (λ x. cond x.report.connected (after_driver_text u (x.unfinished ++ piece) None s) s) o s ≡ s
-bytes_stay s u piece o h = grind arith
+bytes_stay : (s : ServerState) (u : UpsId) (piece : List ℕ) → is_quiet (driver_bytes_by piece (ups_at u.place s)) ≡ true → after_driver_bytes u piece None s ≡ s
+unfolding after_driver_bytes lines_read
+bytes_stay s u piece h = by_ups (ups_at u.place s) refl h
+  where
+    f : UpsState → UpsState
+    f = ups_after_bytes s.moment u.place s.tracking piece None
+
+    absent : (x : UpsState) → is_quiet (driver_bytes_by piece (Some x)) ≡ true → x.report.connected ≡ false
+    absent x h = grind arith
+
+    by_ups : (o : Option UpsState) → ups_at u.place s ≡ o → is_quiet (driver_bytes_by piece o) ≡ true
+        → with_tracking (after_ends u.place (option_map_or (lines_of piece None) o []) s.tracking) (with_ups_changed f u s) ≡ s
+    by_ups None none h = sym (server_same s u f (λ x there. cc))
+    by_ups (Some x) there h =
+        let gone : x.report.connected ≡ false = absent x h in
+        ap (λ (lines : List (List ℕ)). with_tracking (after_ends u.place lines s.tracking) (with_ups_changed f u s)) (cond-false _ _ _ gone)
+        ∙ sym (server_same s u f (of_ups s u x (λ y. f y ≡ y) there (cond-false _ _ _ gone)))
 
 feed_stays : (s : ServerState) (c : ℕ) (piece : List ℕ) (o : Option SessionState) (b : Bool) → session c s ≡ o → is_quiet (fed_by o piece b) ≡ true → pumped (with_input s c piece) c ≡ s
 feed_stays s c piece None b e h = ap (λ (z : ServerState). pumped z c) (input_absent s c piece e) ∙ sym (pump_absent s c e)
@@ -202,7 +220,7 @@ each s (DriverUp v) =
     }
 each s (DriverBytes v piece) =
     let e : Event = DriverBytes v piece in record {
-      quiet = λ h. bytes_stay s v piece (ups_at v.place s) h;
+      quiet = λ h. bytes_stay s v piece h;
       leaves = λ u o x there. bytes_leave s v piece u o x there;
     }
 each s (DriverTook v n) =

@@ -15,7 +15,7 @@ use Rattle.nutcore.specs.Isolation.{client_of, ups_of, without_commands, kept_fr
 use Rattle.nutcore.specs.Cost.{cost_of, no_cost}
 use Rattle.nutcore.proofs.Events.{is_quiet, may_not, of_event, of_parts, any_driver, refused}
 use Rattle.nutcore.proofs.Changed.{by_change}
-use Rattle.nutcore.proofs.DriverText.{changed_both}
+use Rattle.nutcore.specs.Step.{changed_both}
 use Rattle.nutcore.proofs.Changes.{of_upses}
 use Rattle.nutcore.proofs.Costs.{refused_feed_costs, refused_take_costs}
 use Rattle.nutcore.proofs.Found.{find_without_other}

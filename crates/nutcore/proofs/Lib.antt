@@ -41,7 +41,7 @@ mod Sound
 mod Bounded
 mod NoteRoom
 mod Noted
-mod NotedData
+mod NotedUpses
 mod NotedLogins
 mod Taking
 mod TakingAmongOthers

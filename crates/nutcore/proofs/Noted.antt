@@ -1,5 +1,5 @@
 -- What is read off the notes of an event.
-use Rattle.std.proofs.Common.{◌≡◌, ◌≢◌, ◌∙◌, ◌⊎◌, inl, inr, ℕ, suc, eqb, List, [], ◌∷◌, ◌++◌, Option, Some, None, Result, Ok, refl, sym, ap, subst}
+use Rattle.std.proofs.Common.{◌≡◌, ◌≢◌, ◌∙◌, ◌⊎◌, inl, inr, ℕ, suc, Bool, List, [], ◌∷◌, ◌++◌, Option, Some, None, Result, Ok, refl, sym, ap, ap₂, subst, cond}
 use Rattle.std.specs.List.{filter_map, cons_option}
 use Rattle.std.specs.Option.{option_and_then}
 use Rattle.std.specs.Str.{bytes_eq}
@@ -10,16 +10,24 @@ use Rattle.nutparse.specs.declared.command.Command.TheVariants.{Login, Primary, 
 use Rattle.nutparse.specs.declared.err_word.ErrWord.{ErrWord}
 use Rattle.nutparse.specs.Command.{read_command}
 use Rattle.nutanswer.specs.declared.reply.Change.TheVariants as changes
-use Rattle.nutcore.proofs.Common.{cond_both, option_map, UpsId, Change, SessionState, UpsState, ServerState, session}
+use Rattle.std.proofs.lemmas.List.Elements.{filter_map-append}
+use Rattle.nutcore.proofs.Common.{cond_both, option_map, option_map_or, UpsId, TrackingState, Change, SessionState, UpsState}
+use Rattle.nutcore.proofs.Common.{ServerState, session, ups_at}
 use Rattle.nutcore.specs.declared.note.DataState.{DataState}
 use Rattle.nutcore.specs.declared.note.DataState.TheVariants as states
-use Rattle.nutcore.specs.declared.note.Look.{Look}
 use Rattle.nutcore.specs.declared.note.Note.{Note}
-use Rattle.nutcore.specs.declared.note.Note.TheVariants.{Data, StatusChanged, LinesRefused, LoggedIn, LoggedOut, Did}
+use Rattle.nutcore.specs.declared.note.Note.TheVariants.{Data, StatusChanged, LineRefused, LoggedIn, LoggedOut, Did}
 use Rattle.nutcore.specs.declared.note.Deed.{Deed}
 use Rattle.nutcore.specs.History.{Execution, of_line, of_notice, client_of}
 use Rattle.nutcore.specs.Reply.{refusal_by, change_by}
-use Rattle.nutcore.specs.Notes.{who_of, logout_of, deed_of, note_read, note_of, refusal_note, status_note, data_note, notes_between, tick_note, tick_notes}
+use Rattle.nutwords.specs.WholeLines.{whole_lines}
+use Rattle.nutdriver.specs.declared.report.LineOutcome.{LineOutcome}
+use Rattle.nutdriver.specs.Report.{after_line, end_in}
+use Rattle.nutcore.specs.Reports.{with_end, is_unawaited}
+use Rattle.nutcore.specs.Ups.{is_refused, as_far, after_text, after_texts}
+use Rattle.nutcore.specs.Notes.{who_of, logout_of, deed_of, note_read, note_of, data_state_of, status_of, fault_of}
+use Rattle.nutcore.specs.Notes.{refusal_note, status_note, data_note, line_notes, texts_notes, loss_notes, is_lost_by}
+use Rattle.nutcore.specs.Notes.{text_notes, connect_notes, bytes_notes, down_notes, of_ups_notes, tick_note, tick_notes}
 use Rattle.nutcore.specs.NotedRuns.{Leads}
 
 -- one path after another
@@ -43,35 +51,80 @@ noted_or_same u states.Good states.Good = inl (refl, refl)
 noted_or_same u states.Stale states.Stale = inl (refl, refl)
 noted_or_same u was is = inr (refl, λ e. cc e)
 
--- what is read of no note of a UPS
-pub record IsBlind {X : Type 0} (f : Note → Option X) : Type 0 where
-  pub state : (u : UpsId) (state : DataState) → f (Data u state) ≡ None
-  pub status : (u : UpsId) → f (StatusChanged u) ≡ None
-  pub refused : (u : UpsId) (count : ℕ) (fault : Option DriverFault) → f (LinesRefused u count fault) ≡ None
+-- what is read of no note of this UPS
+pub record IsBlind {X : Type 0} (f : Note → Option X) (v : UpsId) : Type 0 where
+  pub state : (state : DataState) → f (Data v state) ≡ None
+  pub status : (status : Option (List ℕ)) → f (StatusChanged v status) ≡ None
+  pub refused : (fault : Option DriverFault) → f (LineRefused v fault) ≡ None
 
-module _ {X : Type 0} (f : Note → Option X) (blind : IsBlind f) where
-  blind_data : (u : UpsId) (was is : DataState) → option_and_then f (data_note u was is) ≡ None
-  blind_data u was is = elim (noted_or_same u was is) [ inl same ↦ rw same.0 refl | inr told ↦ rw told.0 (blind.state u is) ]
+module _ {X : Type 0} (f : Note → Option X) (v : UpsId) (blind : IsBlind f v) where
+  pub blind_data : (was is : DataState) → option_and_then f (data_note v was is) ≡ None
+  blind_data was is = elim (noted_or_same v was is) [ inl same ↦ rw same.0 refl | inr told ↦ rw told.0 (blind.state is) ]
 
-  blind_refused : (u : UpsId) (was is : Look) → option_and_then f (refusal_note u was is) ≡ None
-  blind_refused u was is = cond_both (eqb is.refused was.refused) None _ (λ o. option_and_then f o ≡ None) (λ e. refl) (λ e. blind.refused u _ is.fault)
+  pub blind_refused : (b : Bool) (o : LineOutcome) → option_and_then f (refusal_note v b o) ≡ None
+  blind_refused b o = cond_both (is_refused b o) (Some (LineRefused v (fault_of o))) None (λ n. option_and_then f n ≡ None) (λ e. blind.refused (fault_of o)) (λ e. refl)
 
-  blind_status : (u : UpsId) (was is : Option (List ℕ)) → option_and_then f (status_note u was is) ≡ None
-  blind_status u None None = refl
-  blind_status u (Some was) None = refl
-  blind_status u None (Some is) = blind.status u
-  blind_status u (Some was) (Some is) = cond_both (bytes_eq was is) None _ (λ o. option_and_then f o ≡ None) (λ e. refl) (λ e. blind.status u)
+  pub blind_status : (was is : Option (List ℕ)) → option_and_then f (status_note v was is) ≡ None
+  blind_status None None = refl
+  blind_status (Some was) None = blind.status None
+  blind_status None (Some is) = blind.status (Some is)
+  blind_status (Some was) (Some is) = cond_both (bytes_eq was is) None _ (λ o. option_and_then f o ≡ None) (λ e. refl) (λ e. blind.status (Some is))
 
-  pub blind_ups : (u : UpsId) (was is : Option Look) → filter_map f (notes_between u was is) ≡ []
-  blind_ups u (Some was) (Some is) =
-      skip f (refusal_note u was is) _ (blind_refused u was is) ∙ skip f (status_note u was.status is.status) _ (blind_status u was.status is.status) ∙ skip f (data_note u was.state is.state) [] (blind_data u was.state is.state)
-  blind_ups u None is = refl
-  blind_ups u (Some was) None = refl
+  blind_line : (a m : ℕ) (b : Bool) (x : UpsState) (line : List ℕ) → filter_map f (line_notes a m v b x line) ≡ []
+  blind_line a m b x line =
+      let y : UpsState = after_text m b x line in
+      skip f (status_note v (status_of x) (status_of y)) _ (blind_status (status_of x) (status_of y))
+      ∙ skip f (refusal_note v b (after_line m x.report line).1) _ (blind_refused b (after_line m x.report line).1)
+      ∙ skip f (data_note v (data_state_of a m x) (data_state_of a m y)) [] (blind_data (data_state_of a m x) (data_state_of a m y))
 
-  pub blind_tick : (max_age was now place : ℕ) (xs : List UpsState) → filter_map f (tick_notes max_age was now place xs) ≡ []
-  blind_tick max_age was now place [] = refl
-  blind_tick max_age was now place (x ∷ xs) =
-      skip f (tick_note max_age was now place x) (tick_notes max_age was now (suc place) xs) (blind_data (id_at place) _ _) ∙ blind_tick max_age was now (suc place) xs
+  blind_texts : (a m : ℕ) (t : TrackingState) (lines : List (List ℕ)) (x : UpsState) → filter_map f (texts_notes a m v t lines x) ≡ []
+  blind_texts a m t [] x = refl
+  blind_texts a m t (line ∷ lines) x =
+      let b : Bool = is_unawaited v.place (end_in line) t in
+      let next : TrackingState = with_end v.place (end_in line) t in
+      let y : UpsState = after_text m b x line in
+      filter_map-append f (line_notes a m v b x line) (texts_notes a m v next lines y) ∙ ap₂ (λ xs ys. xs ++ ys) (blind_line a m b x line) (blind_texts a m next lines y)
+
+  pub blind_loss : (x : UpsState) → filter_map f (loss_notes v x) ≡ []
+  blind_loss x = skip f (Some (Data v states.Lost)) _ (blind.state states.Lost) ∙ skip f (status_note v (status_of x) None) [] (blind_status (status_of x) None)
+
+  pub blind_text : (a m : ℕ) (t : TrackingState) (text : List ℕ) (k : Option ℕ) (x : UpsState) → filter_map f (text_notes a m v t text k x) ≡ []
+  blind_text a m t text k x =
+      let lines : List (List ℕ) = as_far k (whole_lines text) in
+      let y : UpsState = after_texts m v.place t lines x in
+      filter_map-append f (texts_notes a m v t lines x) (cond (is_lost_by text k) (loss_notes v y) [])
+      ∙ ap₂ (λ xs ys. xs ++ ys) (blind_texts a m t lines x) (cond_both (is_lost_by text k) (loss_notes v y) [] (λ notes. filter_map f notes ≡ []) (λ e. blind_loss y) (λ e. refl))
+
+  -- nor of its driver's events
+  blind_ups : (s : ServerState) (notes : UpsState → List Note) → ((x : UpsState) → filter_map f (notes x) ≡ []) → filter_map f (of_ups_notes v s notes) ≡ []
+  blind_ups s notes none = by_ups (ups_at v.place s)
+    where
+      by_ups : (o : Option UpsState) → filter_map f (option_map_or notes o []) ≡ []
+      by_ups None = refl
+      by_ups (Some x) = none x
+
+  pub blind_connect : (x : UpsState) → filter_map f (connect_notes v x) ≡ []
+  blind_connect x = cond_both x.report.connected [] (Data v states.Awaited ∷ []) (λ notes. filter_map f notes ≡ []) (λ e. refl) (λ e. skip f (Some (Data v states.Awaited)) [] (blind.state states.Awaited))
+
+  pub blind_bytes : (s : ServerState) (piece : List ℕ) (k : Option ℕ) (x : UpsState) → filter_map f (bytes_notes s v piece k x) ≡ []
+  blind_bytes s piece k x = cond_both x.report.connected _ [] (λ notes. filter_map f notes ≡ []) (λ e. blind_text s.max_age s.moment s.tracking (x.unfinished ++ piece) k x) (λ e. refl)
+
+  pub blind_down : (x : UpsState) → filter_map f (down_notes v x) ≡ []
+  blind_down x = cond_both x.report.connected (loss_notes v x) [] (λ notes. filter_map f notes ≡ []) (λ e. blind_loss x) (λ e. refl)
+
+  pub ups_up : (s : ServerState) → filter_map f (of_ups_notes v s (connect_notes v)) ≡ []
+  ups_up s = blind_ups s (connect_notes v) blind_connect
+
+  pub ups_bytes : (s : ServerState) (piece : List ℕ) (k : Option ℕ) → filter_map f (of_ups_notes v s (bytes_notes s v piece k)) ≡ []
+  ups_bytes s piece k = blind_ups s (bytes_notes s v piece k) (blind_bytes s piece k)
+
+  pub ups_down : (s : ServerState) → filter_map f (of_ups_notes v s (down_notes v)) ≡ []
+  ups_down s = blind_ups s (down_notes v) blind_down
+
+pub blind_tick : {X : Type 0} (f : Note → Option X) → ((v : UpsId) → IsBlind f v) → (max_age was now place : ℕ) (xs : List UpsState) → filter_map f (tick_notes max_age was now place xs) ≡ []
+blind_tick f blind max_age was now place [] = refl
+blind_tick f blind max_age was now place (x ∷ xs) =
+    skip f (tick_note max_age was now place x) (tick_notes max_age was now (suc place) xs) (blind_data f (id_at place) (blind (id_at place)) _ _) ∙ blind_tick f blind max_age was now (suc place) xs
 
 -- what reads no logout reads nothing of a session that is closed
 pub deaf_close : {X : Type 0} (f : Note → Option X) → ((x : SessionState) → option_and_then f (logout_of x) ≡ None) → (o : Option SessionState)

@@ -21,14 +21,14 @@ use Rattle.nutcore.specs.Reply.{seen, asker, asker_of, reply, refusal_by, change
 use Rattle.nutcore.specs.Pump.{next_line_for, answered, after_line, notified}
 use Rattle.nutcore.specs.Step.{joined, with_input, taken_from, without_output, may_take, pumped_until, after_by, ticked, refused_after}
 use Rattle.nutcore.specs.History.{Execution, of_line, of_notice, executions_until, executions_by}
-use Rattle.nutcore.specs.Notes.{who_of, logout_of, deed_of, note_read, note_of, notes_of_lines, look_at, all_notes}
+use Rattle.nutcore.specs.Notes.{who_of, logout_of, deed_of, note_read, note_of, notes_of_lines, all_notes}
 use Rattle.nutcore.specs.NotedRuns.{Leads, login_at, login_in}
 use Rattle.nutcore.proofs.Changed.{of_opened, session_changed, presence_other}
 use Rattle.nutcore.proofs.DriverText.{bytes_change}
 use Rattle.nutcore.proofs.Found.{find_id, find_without, find_without_other, of_pushed}
 use Rattle.nutcore.proofs.Histories.{own_or_other, until_keeps}
 use Rattle.nutcore.proofs.Loops.{found_after_line}
-use Rattle.nutcore.proofs.Noted.{leads_on, leads_nowhere, skip, IsBlind, blind_ups, blind_tick, IsDeaf, deaf_deed, deaf_execution}
+use Rattle.nutcore.proofs.Noted.{leads_on, leads_nowhere, skip, IsBlind, ups_up, ups_bytes, ups_down, blind_tick, IsDeaf, deaf_deed, deaf_execution}
 use Rattle.nutcore.proofs.Progress.{Presence}
 use Rattle.nutcore.proofs.Pumping.{is_next, other_after_line}
 
@@ -136,15 +136,15 @@ if_done c s t xs true logs = logs
 if_done c s t xs false logs = refl
 
 -- in each event
-blind : (c : ℕ) → IsBlind (login_in c)
-blind c = record { state = λ u state. refl; status = λ u. refl; refused = λ u count fault. refl }
+blind : (c : ℕ) (v : UpsId) → IsBlind (login_in c) v
+blind c v = record { state = λ state. refl; status = λ status. refl; refused = λ fault. refl }
 
-pub event_logs : (c : ℕ) (s : ServerState) (e : Event) (o : Outcome) → Logs c s (all_notes s e (refused_after o) (after s e o)) (after s e o)
+pub event_logs : (c : ℕ) (s : ServerState) (e : Event) (o : Outcome) → Logs c s (all_notes s e (refused_after o)) (after s e o)
 unfolding after_by with_input without_output ticked executions_by
-event_logs c s (DriverUp v) o = leads_nowhere (login_at c s) _ _ (blind_ups (login_in c) (blind c) v (look_at v s) _) refl
-event_logs c s (DriverBytes v piece) o = leads_nowhere (login_at c s) _ _ (blind_ups (login_in c) (blind c) v (look_at v s) _) (ap (login_at c) (bytes_change v piece (refused_after o) s))
+event_logs c s (DriverUp v) o = leads_nowhere (login_at c s) _ _ (ups_up (login_in c) v (blind c v) s) refl
+event_logs c s (DriverBytes v piece) o = leads_nowhere (login_at c s) _ _ (ups_bytes (login_in c) v (blind c v) s piece (refused_after o)) (ap (login_at c) (bytes_change v piece (refused_after o) s))
 event_logs c s (DriverTook v n) o = refl
-event_logs c s (DriverDown v) o = leads_nowhere (login_at c s) _ _ (blind_ups (login_in c) (blind c) v (look_at v s) _) refl
+event_logs c s (DriverDown v) o = leads_nowhere (login_at c s) _ _ (ups_down (login_in c) v (blind c v) s) refl
 event_logs c s (Tick seconds) o = leads_nowhere (login_at c s) _ _ (blind_tick (login_in c) (blind c) s.max_age s.moment (max seconds s.moment) 0 s.upses) refl
 event_logs c s (Open address) o =
     of_opened (λ t. Logs c s [] t) s address (refused_after o) refl (λ room. of_pushed (λ x. login x ≡ login_at c s) c (new_session s.next_id address) s.sessions refl (λ its none. sym (ap login none)))

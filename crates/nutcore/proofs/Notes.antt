@@ -1,33 +1,29 @@
 -- What is noted of an event.
 use Rattle.std.proofs.Common.{◌≡◌, ◌∙◌, ℕ, zero, suc, ◌+◌, ◌-◌, ◌≤◌, Bool, true, false, List, [], ◌∷◌, ◌++◌, Option, Some, None, Result, refl, ap, sym, arith, length, take, zero-add, append-nil, append_assoc, slice_get}
-use Rattle.std.specs.Prelude.{if◌then◌else◌}
+use Rattle.std.specs.Prelude.{if◌then◌else◌, is_some}
 use Rattle.std.specs.List.{filter_map, cons_option}
-use Rattle.std.specs.Option.{option_and_then, option_map, option_map_or}
-use Rattle.std.proofs.lemmas.Bool.Decides.{nat_tests}
+use Rattle.std.specs.Option.{option_and_then, option_map_or}
 use Rattle.std.proofs.lemmas.List.Elements.{filter_map-append}
-use Rattle.std.proofs.lemmas.Slice.Eq.{bytes_eq-Decides}
 use Rattle.nutparse.specs.declared.command.Command.{Command}
 use Rattle.nutparse.specs.declared.err_word.ErrWord.{ErrWord}
 use Rattle.nutparse.specs.Command.{read_command}
 use Rattle.nutanswer.specs.declared.reply.Reply.{Reply}
 use Rattle.nutcore.proofs.Common.{SessionState, ServerState, session, UpsId}
+use Rattle.nutcore.specs.declared.note.DataState.TheVariants.{Lost}
 use Rattle.nutcore.specs.declared.note.Note.{Note}
-use Rattle.nutcore.specs.declared.note.DataState.{DataState}
-use Rattle.nutcore.specs.declared.note.DataState.TheVariants as states
-use Rattle.nutcore.specs.declared.note.Look.{Look}
+use Rattle.nutcore.specs.declared.note.Note.TheVariants.{Data, StatusChanged}
 use Rattle.nutcore.specs.declared.note.TheConstants.{NOTE_LIMIT}
 use Rattle.nutcore.specs.declared.event.Event.TheVariants.{Feed, Took}
 use Rattle.nutcore.specs.Ups.{UpsState}
 use Rattle.nutcore.specs.Step.{with_input, without_output, may_take, refused_after}
 use Rattle.nutcore.specs.Pump.{next_line, next_line_for, after_line, after_lines, pump_stops, held_of, holds_overlong, is_overlong}
 use Rattle.nutcore.specs.History.{Execution, of_notice, next_execution, lines_executed, notice, pump_executions, executions_until, executions_by}
-use Rattle.nutcore.specs.Notes.{note_of, notes_of_lines, logout_of, refusal_note, status_note, data_note, notes_between, look_at, look_of, tick_note, tick_notes, IsNoted}
+use Rattle.nutcore.specs.Notes.{note_of, notes_of_lines, logout_of, status_of, status_note, loss_notes, tick_note, tick_notes, IsNoted}
 use Rattle.nutcore.specs.Cost.{RunningServer}
 use Rattle.nutcore.specs.declared.event.Outcome.{Outcome}
-use Rattle.nutcore.specs.Promises.{Replies, note_in_reply, with_note, next_note, with_next, with_changes, OfUps}
+use Rattle.nutcore.specs.Promises.{Replies, note_in_reply, with_note, next_note, with_next}
 use Rattle.nutcore.proofs.Loops.{none_of, stopped_line, all_lines_are}
 use Rattle.nutcore.proofs.EventSteps.{input_absent}
-use Rattle.nutcore.proofs.DriverSteps.{IsThere}
 
 -- the lines that are executed, and those after them
 executed-add : (j k : ℕ) (s : ServerState) (c : ℕ) → lines_executed (j + k) s c ≡ lines_executed j s c ++ lines_executed k (after_lines j s c) c
@@ -57,13 +53,25 @@ pumped_all k s t c e le none =
     cc (all_executed k s c le stop, all_lines_are k s c le stop, e)
 
 -- as many are noted of what is there and what comes as of what was there before
-take_onto : (n : ℕ) (xs ys : List Note) → take n (take n xs ++ ys) ≡ take n (xs ++ ys)
+pub take_onto : (n : ℕ) (xs ys : List Note) → take n (take n xs ++ ys) ≡ take n (xs ++ ys)
 take_onto zero xs ys = refl
 take_onto (suc n) [] ys = refl
 take_onto (suc n) (x ∷ xs) ys = cc (take_onto n xs ys)
 
 pub one_noted : (xs : List Note) (o : Option Note) (notes : List Note) → notes ≡ take NOTE_LIMIT xs → with_note o notes ≡ take NOTE_LIMIT (xs ++ cons_option o [])
 one_noted xs o notes e = grind (arith, take_onto NOTE_LIMIT xs, append-nil)
+
+-- a driver is lost
+pub loss_noted : (u : UpsId) (x : UpsState) (notes first final : List Note) → first ≡ take NOTE_LIMIT (notes ++ Data u Lost ∷ []) → final ≡ with_note (status_note u (status_of x) None) first → final ≡ take NOTE_LIMIT (notes ++ loss_notes u x)
+loss_noted u x notes first final lost gone =
+    let o : Option Note = status_note u (status_of x) None in
+    gone ∙ one_noted (notes ++ Data u Lost ∷ []) o first lost ∙ ap (take NOTE_LIMIT) (append_assoc notes (Data u Lost ∷ []) (cons_option o []))
+
+pub status_gone : (u : UpsId) (o p : Option (List ℕ)) → o ≡ p → is_some o ≡ true → status_note u p None ≡ Some (StatusChanged u None)
+status_gone u o p e there = grind arith
+
+pub no_status : (u : UpsId) (o p : Option (List ℕ)) → o ≡ p → is_some o ≡ false → status_note u p None ≡ None
+no_status u o p e none = grind arith
 
 next_notes : (s : ServerState) (c : ℕ) (o : Option (List ℕ)) → cons_option (next_note s c o) [] ≡ filter_map note_of (next_execution s c o)
 next_notes s c o = grind arith
@@ -129,40 +137,6 @@ then_more : (o : Option Note) (xs ys : List Note) → cons_option o (xs ++ ys) �
 then_more None xs ys = refl
 then_more (Some x) xs ys = refl
 
--- what changed of a UPS, where nothing was noted before
-pub changes_noted : (u : UpsId) (was is : Option Look) (notes before : List Note) → before ≡ [] → notes ≡ with_changes u was is before → notes ≡ take NOTE_LIMIT (notes_between u was is)
-changes_noted u None is notes before none e = cc
-changes_noted u (Some was) None notes before none e = cc
-changes_noted u (Some was) (Some is) notes before none e =
-    let a = refusal_note u was is in
-    let b = status_note u was.status is.status in
-    let d = data_note u was.state is.state in
-    let one = one_noted [] a before none in
-    let two = one_noted (cons_option a []) b (with_note a before) one in
-    let three = one_noted (cons_option a [] ++ cons_option b []) d (with_note b (with_note a before)) two in
-    e ∙ three ∙ ap (take NOTE_LIMIT) (sym (then_more a [] (cons_option b (cons_option d [])) ∙ ap (λ (notes : List Note). cons_option a [] ++ notes) (then_more b [] (cons_option d [])) ∙ sym (append_assoc (cons_option a []) (cons_option b []) (cons_option d []))))
-
--- nothing changed
-pub nothing_changed : (u : UpsId) (s t : ServerState) (notes : List Note) → t ≡ s → notes ≡ [] → notes ≡ take NOTE_LIMIT (notes_between u (look_at u s) (look_at u t))
-nothing_changed u s t notes same none = none ∙ ap (take NOTE_LIMIT) (sym (unchanged u (look_at u s))) ∙ ap (λ (z : ServerState). take NOTE_LIMIT (notes_between u (look_at u s) (look_at u z))) (sym same)
-  where
-    no_refusal : (u : UpsId) (x : Look) → refusal_note u x x ≡ None
-    no_refusal u x = grind (arith, nat_tests)
-
-    no_status : (u : UpsId) (status : Option (List ℕ)) → status_note u status status ≡ None
-    no_status u None = refl
-    no_status u (Some status) = rw ((bytes_eq-Decides status status).1 refl) refl
-
-    no_data : (u : UpsId) (state : DataState) → data_note u state state ≡ None
-    no_data u states.Lost = refl
-    no_data u states.Awaited = refl
-    no_data u states.Good = refl
-    no_data u states.Stale = refl
-
-    unchanged : (u : UpsId) (o : Option Look) → notes_between u o o ≡ []
-    unchanged u None = refl
-    unchanged u (Some x) = rw (no_refusal u x, no_status u x.status, no_data u x.state) refl
-
 -- the clock makes one more stale, or doesn't
 abbrev pub ticked : ℕ → ℕ → ℕ → ℕ → UpsState → List Note
 ticked max_age was now place x = cons_option (tick_note max_age was now place x) []
@@ -178,14 +152,3 @@ ticked_so_far max_age was now place (suc p) (y ∷ ys) x e =
     let first : Option Note = tick_note max_age was now place y in
     ap (cons_option first) (ticked_so_far max_age was now (suc place) p ys x e ∙ ap (λ k. tick_notes max_age was now (suc place) (take p ys) ++ ticked max_age was now k x) there)
     ∙ then_more first (tick_notes max_age was now (suc place) (take p ys)) (ticked max_age was now (place + suc p) x)
-
--- what is noted of an event of a driver
-pub ups_noted : (u : UpsId) (s s' mid t : ServerState) (was : Option Look) (notes before : List Note) → s' ≡ s → was ≡ look_at u s' → t ≡ mid → before ≡ [] → notes ≡ with_changes u was (look_at u mid) before → notes ≡ take NOTE_LIMIT (notes_between u (look_at u s) (look_at u t))
-ups_noted u s s' mid t was notes before same stood leaves none e =
-    changes_noted u was (look_at u mid) notes before none e
-    ∙ ap (λ (o : Option Look). take NOTE_LIMIT (notes_between u o (look_at u mid))) (stood ∙ ap (look_at u) same)
-    ∙ ap (λ (z : ServerState). take NOTE_LIMIT (notes_between u (look_at u s) (look_at u z))) (sym leaves)
-
--- how a UPS that is there looked
-pub looked : (u : UpsId) (s : ServerState) (b : Bool) (look : Look) → IsThere s u b → OfUps u s (λ x. look ≡ look_of s.max_age s.moment x) → Some look ≡ look_at u s
-looked u s b look there is = ap (λ (l : Look). Some l) (is there.ups there.there) ∙ sym (ap (λ (o : Option UpsState). option_map (look_of s.max_age s.moment) o) there.there)

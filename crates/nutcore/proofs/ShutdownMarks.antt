@@ -11,7 +11,7 @@ use Rattle.nutdriver.specs.declared.report.LineOutcome.{LineOutcome}
 use Rattle.nutdriver.specs.Report.{after_line as report_after, end_in}
 use Rattle.nutanswer.specs.declared.reply.Change.TheVariants as changes
 use Rattle.nutcore.specs.Reports.{with_end, is_unawaited}
-use Rattle.nutcore.specs.Ups.{with_fsd, after_outcome, after_texts}
+use Rattle.nutcore.specs.Ups.{with_fsd, after_outcome, after_texts, ups_after_text, ups_after_bytes}
 use Rattle.nutcore.specs.Reply.{changed_upses, seen, seen_ups}
 use Rattle.nutcore.specs.Pump.{next_line_for, after_line, notified}
 use Rattle.nutcore.specs.Step.{after_by, joined, taken_from, opened, ticked}
@@ -20,7 +20,6 @@ use Rattle.nutcore.specs.ByRight.{SetsShutdownByRight, WasShutDown, is_shut_down
 use Rattle.nutcore.proofs.Changed.{by_change}
 use Rattle.nutcore.proofs.Changes.{of_upses as of_changed_upses}
 use Rattle.nutcore.proofs.UpsPlaces.{same_ups, at_changed}
-use Rattle.nutcore.proofs.DriverText.{ups_after_text, ups_after_bytes}
 use Rattle.nutcore.proofs.Pumping.{is_next, after_line_is, change_at}
 use Rattle.nutcore.proofs.Rows.{comes_of_line, by_right}
 use Rattle.nutcore.proofs.Events.{IsPlain, OfDrivers, of_parts}

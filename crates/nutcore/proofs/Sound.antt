@@ -13,7 +13,7 @@ use Rattle.nutparse.specs.Command.{read_command}
 use Rattle.nutcore.specs.declared.event.Event.TheVariants.{Open}
 use Rattle.nutcore.specs.declared.event.Outcome.TheVariants.{Opened}
 use Rattle.nutcore.specs.Session.{SessionState, find, put, without, new_session}
-use Rattle.nutcore.specs.Ups.{UpsState, new_ups, after_connecting, after_loss, after_tick}
+use Rattle.nutcore.specs.Ups.{UpsState, new_ups, after_connecting, after_loss, after_tick, ups_after_bytes}
 use Rattle.nutcore.specs.Reply.{reply, changed_session, changed_upses, changed_tracking}
 use Rattle.nutcore.specs.Pump.{answered, next_line_for, after_line, with_notice}
 use Rattle.nutcore.specs.Step.{Step, joined, taken_from, may_open, connected, disconnected, after_driver_took, ticked, after_by, refused_after}
@@ -25,7 +25,6 @@ use Rattle.nutcore.proofs.Places.{rise_put, rise_push, rise_without, length-put}
 use Rattle.nutcore.proofs.Changes.{keeps, of_tracking}
 use Rattle.nutcore.proofs.Changed.{by_change, either_notice, of_opened}
 use Rattle.nutcore.proofs.Pumping.{is_next, after_line_is, change_at, session_after}
-use Rattle.nutcore.proofs.DriverText.{ups_after_bytes}
 use Rattle.nutcore.proofs.Kept.{IsKept, IsAny, any_address, any_event, by_event, by_run}
 use Rattle.nutcore.proofs.SoundUps.{each_map, each_last, each_same, length-changed, each_changed, length-changes, sound_loss, sound_connecting, sound_driver_bytes, sound_took, sound_tick, sound_changes}
 use Rattle.nutcore.proofs.Runs.{lawful}

@@ -1,5 +1,5 @@
 -- Sound UPSs, and what keeps them so.
-use Rattle.std.proofs.Common.{◌≡◌, ◌≤◌, ℕ, zero, suc, Bool, true, false, List, [], ◌∷◌, ◌++◌, Option, Some, refl, ap, subst, map, length, replicate, drop, length-append, length-drop, arith}
+use Rattle.std.proofs.Common.{◌≡◌, ◌≤◌, ℕ, zero, suc, Bool, true, false, List, [], ◌∷◌, ◌++◌, Option, Some, None, refl, ap, subst, map, length, replicate, drop, length-append, length-drop, arith}
 use Rattle.std.proofs.Math.Seq.{drop-nil}
 use Rattle.std.proofs.lemmas.Bool.{leb-false}
 use Rattle.nutwords.specs.declared.limits.TheConstants.{LINE_LIMIT, LINE_ROOM}
@@ -9,16 +9,18 @@ use Rattle.nutdriver.specs.declared.report.LineOutcome.{LineOutcome}
 use Rattle.nutdriver.specs.Tree.{empty_tree}
 use Rattle.nutdriver.specs.Report.{after_line as report_after_line, end_in}
 use Rattle.nutdriver.specs.Sound.{IsSoundTree, EachLineKeepsTheTreeSound}
-use Rattle.nutcore.proofs.Common.{never_both, cond_both, TrackingState, Change, changed_at}
+use Rattle.nutcore.proofs.Common.{never_both, cond_both, cond-false, TrackingState, Change, changed_at}
 use Rattle.nutcore.specs.declared.TheConstants.{DRIVER_OWED_LIMIT}
-use Rattle.nutwords.specs.WholeLines.{whole_lines, unfinished_after, is_too_long}
+use Rattle.nutwords.specs.Lines.{Tail, Unfinished, IsCutInto, line as one_line, unfinished, overlong}
+use Rattle.nutwords.specs.SplitLine.{split_line}
+use Rattle.nutwords.specs.WholeLines.{whole_lines, unfinished_after, is_too_long, tail_after}
+use Rattle.nutwords.proofs.PublicLaws.{whole_lines_are_the_cut}
 use Rattle.nutcore.specs.Reports.{with_end, is_unawaited}
-use Rattle.nutcore.specs.Ups.{UpsState, after_connecting, after_loss, after_tick, after_outcome, after_text, after_texts, with_unfinished}
+use Rattle.nutcore.specs.Ups.{UpsState, after_connecting, after_loss, after_tick, after_outcome, after_text, after_texts, with_unfinished, ups_after_bytes}
 use Rattle.nutcore.specs.Reply.{changed_upses}
 use Rattle.nutcore.specs.Promises.{OrderFits}
 use Rattle.nutcore.proofs.Changes.{of_upses}
 use Rattle.nutcore.specs.Step.{driver_may_take, after_driver_took}
-use Rattle.nutcore.proofs.DriverText.{ups_after_bytes}
 use Rattle.nutcore.specs.Sound.{Each, IsSoundUps}
 
 -- lists
@@ -65,11 +67,11 @@ pub record IsSoundConnected (m : ℕ) (x : UpsState) : Type 0 where
   pub is : IsSoundUps m x
   pub connected : x.report.connected ≡ true
 
-sound_there : (m : ℕ) (x : UpsState) → IsSoundTree x.report.tree → x.report.heard ≤ m → x.pinged ≤ m → length x.owed ≤ DRIVER_OWED_LIMIT → length x.unfinished ≤ LINE_LIMIT → x.report.connected ≡ true → IsSoundConnected m x
-sound_there m x tree heard pinged owed short is = record { is = record { tree = tree; heard = heard; pinged = pinged; owed = owed; unfinished = short; lost = λ e. never_both x.report.connected is e }; connected = is }
+sound_there : (m : ℕ) (x : UpsState) → IsSoundTree x.report.tree → x.report.heard ≤ m → x.pinged ≤ m → length x.owed ≤ DRIVER_OWED_LIMIT → length x.unfinished ≤ LINE_LIMIT → split_line x.unfinished ≡ None → x.report.connected ≡ true → IsSoundConnected m x
+sound_there m x tree heard pinged owed short no_lf is = record { is = record { tree = tree; heard = heard; pinged = pinged; owed = owed; unfinished = short; one_line = no_lf; lost = λ e. never_both x.report.connected is e }; connected = is }
 
-pub sound_bytes : (m : ℕ) (bytes : List ℕ) (x : UpsState) → length bytes ≤ LINE_LIMIT → IsSoundConnected m x → IsSoundConnected m (record x { unfinished = bytes })
-sound_bytes m bytes x short h = sound_there m _ h.is.tree h.is.heard h.is.pinged h.is.owed short h.connected
+pub sound_bytes : (m : ℕ) (bytes : List ℕ) (x : UpsState) → length bytes ≤ LINE_LIMIT → split_line bytes ≡ None → IsSoundConnected m x → IsSoundConnected m (record x { unfinished = bytes })
+sound_bytes m bytes x short no_lf h = sound_there m _ h.is.tree h.is.heard h.is.pinged h.is.owed short no_lf h.connected
 
 sound_counted : (m : ℕ) (unawaited : Bool) (x : UpsState) (r : Report × LineOutcome) → (let y : UpsState = record x { report = r.0 } in IsSoundConnected m y) → IsSoundConnected m (after_outcome unawaited x r)
 sound_counted m unawaited x r h = grind arith
@@ -91,12 +93,21 @@ sound_changes m change xs fits all =
 pub length-changes : (change : Change) (xs : List UpsState) → length (changed_upses change xs) ≡ length xs
 length-changes change xs = of_upses (λ told ys. length ys ≡ length xs) change xs refl (λ v f told does. length-changed f v.place xs)
 
+-- what is unfinished of a text has no LF
+rest_alone : (text : List ℕ) (lines : List (List ℕ)) (tail : Tail) → IsCutInto text lines tail → tail ≡ Unfinished (unfinished_after text) → split_line (unfinished_after text) ≡ None
+rest_alone text lines tail cut is = of_tail text lines tail cut (unfinished_after text) is
+  where
+    of_tail : (text : List ℕ) (lines : List (List ℕ)) (tail : Tail) → IsCutInto text lines tail → (rest : List ℕ) → tail ≡ Unfinished rest → split_line rest ≡ None
+    of_tail text _ tail (one_line {rest = after} {first = first} {lines = lines} split few more) rest is = of_tail after lines tail more rest is
+    of_tail text _ _ (unfinished none few) rest is = let same : text ≡ rest = cc is in subst (λ (bytes : List ℕ). split_line bytes ≡ None) same none
+    of_tail text _ _ (overlong none many) rest is = cc is
+
 module _ (empty : IsSoundTree empty_tree) (line_keeps : EachLineKeepsTheTreeSound) where
   pub sound_loss : (m : ℕ) (x : UpsState) → IsSoundUps m (after_loss x)
-  sound_loss m x = record { tree = empty; heard = omega arith; pinged = omega arith; owed = omega arith; unfinished = omega arith; lost = λ e. refl }
+  sound_loss m x = record { tree = empty; heard = omega arith; pinged = omega arith; owed = omega arith; unfinished = omega arith; one_line = refl; lost = λ e. refl }
 
   pub sound_connecting : (m : ℕ) (x : UpsState) → IsSoundUps m (after_connecting m x)
-  sound_connecting m x = record { tree = empty; heard = omega arith; pinged = omega arith; owed = omega arith; unfinished = omega arith; lost = λ e. cc e }
+  sound_connecting m x = record { tree = empty; heard = omega arith; pinged = omega arith; owed = omega arith; unfinished = omega arith; one_line = refl; lost = λ e. cc e }
 
   pub sound_report : (m : ℕ) (x : UpsState) (line : List ℕ) → IsSoundConnected m x → (let y : UpsState = record x { report = (report_after_line m x.report line).0 } in IsSoundConnected m y)
   sound_report m x line h = grind (arith, line_keeps m x.report line h.is.tree, heard_line m x.report line)
@@ -112,7 +123,7 @@ module _ (empty : IsSoundTree empty_tree) (line_keeps : EachLineKeepsTheTreeSoun
       sound_texts lines m place (with_end place (end_in line) t) (after_text m b x line) (sound_text m b x line h)
 
   pub sound_connected_text : (m place : ℕ) (t : TrackingState) (text : List ℕ) (x : UpsState) → is_too_long (unfinished_after text) ≡ false → x.report.connected ≡ true → IsSoundUps m x → IsSoundUps m (with_unfinished (unfinished_after text) (after_texts m place t (whole_lines text) x))
-  sound_connected_text m place t text x short e h = (sound_bytes m (unfinished_after text) (after_texts m place t (whole_lines text) x) (let fits = leb-false LINE_ROOM (length (unfinished_after text)) short in omega (arith, fits)) (sound_texts (whole_lines text) m place t x (record { is = h; connected = e }))).is
+  sound_connected_text m place t text x short e h = (sound_bytes m (unfinished_after text) (after_texts m place t (whole_lines text) x) (let fits = leb-false LINE_ROOM (length (unfinished_after text)) short in omega (arith, fits)) (rest_alone text (whole_lines text) (tail_after text) (whole_lines_are_the_cut text) (cond-false _ _ _ short)) (sound_texts (whole_lines text) m place t x (record { is = h; connected = e }))).is
 
   pub sound_driver_bytes : (m place : ℕ) (t : TrackingState) (piece : List ℕ) (refused : Option ℕ) (x : UpsState) → IsSoundUps m x → IsSoundUps m (ups_after_bytes m place t piece refused x)
   sound_driver_bytes m place t piece refused x h = grind (arith, sound_loss, sound_connected_text m place t (x.unfinished ++ piece) x)

@@ -1,6 +1,6 @@
 -- Which lines of a driver a run executed, and what they made of its report.
-use Rattle.std.specs.Prelude.{◌≡◌, ◌≤◌, ◌+◌, ℕ, Bool, true, false, List, [], ◌∷◌, ◌++◌, Option}
-use Rattle.std.specs.Prelude.{Some, None, ◌==◌, ◌&&◌, if◌then◌else◌, length, take, min}
+use Rattle.std.specs.Prelude.{◌≡◌, ◌≤◌, ◌+◌, ℕ, Bool, true, false, List, [], ◌∷◌, ◌++◌}
+use Rattle.std.specs.Prelude.{Some, None, ◌==◌, ◌&&◌, if◌then◌else◌, length, min}
 use Rattle.std.specs.List.{flat_map}
 use Rattle.std.specs.Option.{option_map_or}
 use Rattle.nutwords.specs.SplitLine.{split_line}
@@ -18,7 +18,7 @@ use Rattle.nuttracking.specs.Tracking.{TrackingState}
 use Rattle.nutwords.specs.WholeLines.{whole_lines}
 use Rattle.nutdriver.specs.Report.{end_in}
 use Rattle.nutcore.specs.Reports.{with_end, is_unawaited}
-use Rattle.nutcore.specs.Ups.{UpsState, greatest_count, is_refused}
+use Rattle.nutcore.specs.Ups.{UpsState, greatest_count, is_refused, as_far}
 use Rattle.nutcore.specs.Server.{ServerState, ups_at}
 use Rattle.nutcore.specs.Step.{after, refused_after}
 use Rattle.nutcore.specs.Run.{Run}
@@ -77,10 +77,6 @@ heard_at moment place t (line ∷ lines) =
       line = line;
       unawaited = is_unawaited place (end_in line) t;
     }) ∷ heard_at moment place (with_end place (end_in line) t) lines
-
-abbrev pub as_far : Option ℕ → List (List ℕ) → List (List ℕ)
-as_far None lines = lines
-as_far (Some k) lines = take k lines
 
 abbrev pub heard_in_event : UpsId → ServerState → Event → Outcome → List Heard
 heard_in_event u s (DriverBytes v piece) outcome =

@@ -72,7 +72,7 @@ pub record StandsAfter (u : UpsId) (old : ServerState) (events : List Event)
   pub now : UpsState
   pub there : ups_at u.place new ≡ Some now
   pub unconnected : now.report.connected ≡ false
-      → now ≡ record new_ups { fsd = now.fsd; faulty = now.faulty; fault = now.fault }
+      → now ≡ record new_ups { fsd = now.fsd; faulty = now.faulty }
   pub connected : now.report.connected ≡ true → ConnectedInRun u old events outcomes now
 
 -- Of every run from a new server, and every UPS of it.

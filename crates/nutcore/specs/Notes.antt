@@ -1,9 +1,9 @@
 -- What is noted of an event, for the journal: names, and never a value or a password.
-use Rattle.std.specs.Prelude.{◌≡◌, ℕ, suc, ◌-◌, ◌==◌, Bool, true, false, List, [], ◌∷◌}
+use Rattle.std.specs.Prelude.{◌≡◌, ◌≤◌, ℕ, suc, Bool, true, false, List, [], ◌∷◌, ◌++◌, length}
 use Rattle.std.specs.Prelude.{Option, Some, None, Result, Ok, codes, take, max}
 use Rattle.std.specs.Prelude.{if◌then◌else◌}
 use Rattle.std.specs.List.{filter_map, cons_option}
-use Rattle.std.specs.Option.{option_map, option_and_then}
+use Rattle.std.specs.Option.{option_map, option_map_or, option_and_then}
 use Rattle.std.specs.Str.{bytes_eq}
 use Rattle.nutdriver.specs.LastLine.{value_of}
 use Rattle.nutusers.specs.declared.ups_list.UpsId.{UpsId}
@@ -15,14 +15,14 @@ use Rattle.nutanswer.specs.declared.reply.Change.{Change}
 use Rattle.nutanswer.specs.declared.reply.Change.TheVariants as changes
 use Rattle.nutparse.specs.Command.{read_command}
 use Rattle.nutcore.specs.declared.note.Note.{Note}
-use Rattle.nutcore.specs.declared.note.Note.TheVariants.{Data, StatusChanged, LinesRefused}
+use Rattle.nutcore.specs.declared.note.Note.TheVariants.{Data, StatusChanged, LineRefused}
 use Rattle.nutcore.specs.declared.note.Note.TheVariants.{LoggedIn, LoggedOut, Did}
 use Rattle.nutcore.specs.declared.note.DataState.{DataState}
 use Rattle.nutcore.specs.declared.note.DataState.TheVariants as states
-use Rattle.nutcore.specs.declared.note.Look.{Look}
 use Rattle.nutcore.specs.declared.note.Who.{Who}
 use Rattle.nutcore.specs.declared.note.Verb.{Verb}
 use Rattle.nutcore.specs.declared.note.Verb.TheVariants as verbs
+use Rattle.nutcore.specs.declared.TheConstants.{DRIVER_READ_LIMIT}
 use Rattle.nutcore.specs.declared.note.TheConstants.{NOTE_LIMIT}
 use Rattle.nutcore.specs.declared.event.Event.{Event}
 use Rattle.nutcore.specs.declared.event.Event.TheVariants.{DriverUp, DriverBytes, DriverDown, Tick}
@@ -30,7 +30,14 @@ use Rattle.nutcore.specs.declared.event.Event.TheVariants.{Feed, Took, Close}
 use Rattle.nutcore.specs.declared.event.Outcome.{Outcome}
 use Rattle.nutanswer.specs.View.{Readiness, not_connected, stale, usable, readiness}
 use Rattle.nutusers.specs.UpsList.{id_at}
-use Rattle.nutcore.specs.Ups.{UpsState}
+use Rattle.nutcore.specs.Ups.{UpsState, is_refused, after_text, after_texts, as_far}
+use Rattle.nutcore.specs.Reports.{with_end, is_unawaited}
+use Rattle.nuttracking.specs.Tracking.{TrackingState}
+use Rattle.nutwords.specs.WholeLines.{whole_lines, unfinished_after, is_too_long}
+use Rattle.nutdriver.specs.declared.fault.DriverFault.{DriverFault}
+use Rattle.nutdriver.specs.declared.report.LineOutcome.{LineOutcome}
+use Rattle.nutdriver.specs.declared.report.LineOutcome.TheVariants.{Refused}
+use Rattle.nutdriver.specs.Report.{after_line, end_in}
 use Rattle.nutcore.specs.Session.{SessionState}
 use Rattle.nutcore.specs.Server.{ServerState, session, ups_at}
 use Rattle.nutcore.specs.Step.{refused_after}
@@ -103,30 +110,7 @@ data_state_of max_age moment x = data_state x.report.dumped (readiness moment ma
 abbrev pub status_of : UpsState → Option (List ℕ)
 status_of x = value_of x.report.tree (codes "ups.status")
 
--- What is compared of a UPS, by the greatest age and the moment: how many lines of its drivers were
--- refused, and why the last one was; its status; and the state of its data.
-abbrev pub look_of : ℕ → ℕ → UpsState → Look
-look_of max_age moment x =
-    record {
-      refused = x.faulty;
-      fault = x.fault;
-      status = status_of x;
-      state = data_state_of max_age moment x;
-    }
-
--- What is noted of a UPS that looked so, and looks so: how many lines were refused meanwhile,
-abbrev pub refusal_note : UpsId → Look → Look → Option Note
-refusal_note u was is =
-    if is.refused == was.refused then None
-    else Some (LinesRefused u (is.refused - was.refused) is.fault)
-
--- that it has another status,
-abbrev pub status_note : UpsId → Option (List ℕ) → Option (List ℕ) → Option Note
-status_note u _ None = None
-status_note u None (Some is) = Some (StatusChanged u)
-status_note u (Some was) (Some is) = if bytes_eq was is then None else Some (StatusChanged u)
-
--- and the state of its data, where it was another.
+-- What is noted of a UPS that was so and is so: another state of its data,
 abbrev pub data_note : UpsId → DataState → DataState → Option Note
 data_note u states.Lost states.Lost = None
 data_note u states.Awaited states.Awaited = None
@@ -134,15 +118,71 @@ data_note u states.Good states.Good = None
 data_note u states.Stale states.Stale = None
 data_note u was is = Some (Data u is)
 
-abbrev pub notes_between : UpsId → Option Look → Option Look → List Note
-notes_between u (Some was) (Some is) =
-    cons_option (refusal_note u was is)
-    (cons_option (status_note u was.status is.status)
-    (cons_option (data_note u was.state is.state) []))
-notes_between u _ _ = []
+-- another status, or none any more,
+abbrev pub status_note : UpsId → Option (List ℕ) → Option (List ℕ) → Option Note
+status_note u None None = None
+status_note u (Some was) (Some is) =
+    if bytes_eq was is then None else Some (StatusChanged u (Some is))
+status_note u _ is = Some (StatusChanged u is)
 
-abbrev pub look_at : UpsId → ServerState → Option Look
-look_at u s = option_map (look_of s.max_age s.moment) (ups_at u.place s)
+-- and that a line of its driver is refused, for what: nothing where it reports on an order that
+-- isn't awaited.
+abbrev pub fault_of : LineOutcome → Option DriverFault
+fault_of (Refused fault) = Some fault
+fault_of _ = None
+
+abbrev pub refusal_note : UpsId → Bool → LineOutcome → Option Note
+refusal_note u unawaited outcome =
+    if is_refused unawaited outcome then Some (LineRefused u (fault_of outcome)) else None
+
+-- What is noted of a whole line of its driver.
+abbrev pub line_notes : ℕ → ℕ → UpsId → Bool → UpsState → List ℕ → List Note
+line_notes max_age moment u unawaited x line =
+    let y = after_text moment unawaited x line in
+    cons_option (status_note u (status_of x) (status_of y))
+    (cons_option (refusal_note u unawaited (after_line moment x.report line).1)
+    (cons_option
+    (data_note u (data_state_of max_age moment x) (data_state_of max_age moment y)) []))
+
+-- Of its driver's lines, one after another, where these are the orders before them.
+abbrev pub texts_notes : ℕ → ℕ → UpsId → TrackingState → List (List ℕ) → UpsState → List Note
+texts_notes max_age moment u t [] x = []
+texts_notes max_age moment u t (line ∷ lines) x =
+    let unawaited = is_unawaited u.place (end_in line) t in
+    line_notes max_age moment u unawaited x line
+    ++ texts_notes max_age moment u (with_end u.place (end_in line) t) lines
+    (after_text moment unawaited x line)
+
+-- Its driver is lost, and with it the status that it reported.
+abbrev pub loss_notes : UpsId → UpsState → List Note
+loss_notes u x = Data u states.Lost ∷ cons_option (status_note u (status_of x) None) []
+
+-- It is lost by what it reported where a line is too long, or memory is refused.
+abbrev pub is_lost_by : List ℕ → Option ℕ → Bool
+is_lost_by text None = is_too_long (unfinished_after text)
+is_lost_by text (Some k) = true
+
+-- What is noted of what it reported.
+abbrev pub text_notes : ℕ → ℕ → UpsId → TrackingState → List ℕ → Option ℕ → UpsState → List Note
+text_notes max_age moment u t text m x =
+    let lines = as_far m (whole_lines text) in
+    texts_notes max_age moment u t lines x
+    ++ (if is_lost_by text m then loss_notes u (after_texts moment u.place t lines x) else [])
+
+-- What is noted of an event of its driver: it connects, reports, or is lost.
+abbrev pub connect_notes : UpsId → UpsState → List Note
+connect_notes u x = if x.report.connected then [] else Data u states.Awaited ∷ []
+
+abbrev pub bytes_notes : ServerState → UpsId → List ℕ → Option ℕ → UpsState → List Note
+bytes_notes s u piece m x =
+    if x.report.connected
+    then text_notes s.max_age s.moment u s.tracking (x.unfinished ++ piece) m x else []
+
+abbrev pub down_notes : UpsId → UpsState → List Note
+down_notes u x = if x.report.connected then loss_notes u x else []
+
+abbrev pub of_ups_notes : UpsId → ServerState → (UpsState → List Note) → List Note
+of_ups_notes u s notes = option_map_or notes (ups_at u.place s) []
 
 -- Data become stale only by the clock, from one moment to another: of the UPSs of which the first
 -- one is at this place, in their order.
@@ -155,29 +195,32 @@ tick_notes max_age was now place [] = []
 tick_notes max_age was now place (x ∷ xs) =
     cons_option (tick_note max_age was now place x) (tick_notes max_age was now (suc place) xs)
 
--- All that is noted of an event, in its order, by the server before it and after it.
-abbrev pub all_notes : ServerState → Event → Option ℕ → ServerState → List Note
-all_notes old (DriverUp u) m new = notes_between u (look_at u old) (look_at u new)
-all_notes old (DriverBytes u piece) m new =
-    notes_between u (look_at u old) (look_at u new)
-all_notes old (DriverDown u) m new = notes_between u (look_at u old) (look_at u new)
-all_notes old (Tick seconds) m new =
-    tick_notes old.max_age old.moment (max seconds old.moment) 0 old.upses
-all_notes old (Feed c piece) m new = notes_of_lines (executions_by old (Feed c piece) m)
-all_notes old (Took c n) m new = notes_of_lines (executions_by old (Took c n) m)
-all_notes old (Close c) m new = cons_option (option_and_then logout_of (session c old)) []
-all_notes old _ m new = []
+-- All that is noted of an event, in its order.
+abbrev pub all_notes : ServerState → Event → Option ℕ → List Note
+all_notes s (DriverUp u) m = of_ups_notes u s (connect_notes u)
+all_notes s (DriverBytes u piece) m = of_ups_notes u s (bytes_notes s u piece m)
+all_notes s (DriverDown u) m = of_ups_notes u s (down_notes u)
+all_notes s (Tick seconds) m = tick_notes s.max_age s.moment (max seconds s.moment) 0 s.upses
+all_notes s (Feed c piece) m = notes_of_lines (executions_by s (Feed c piece) m)
+all_notes s (Took c n) m = notes_of_lines (executions_by s (Took c n) m)
+all_notes s (Close c) m = cons_option (option_and_then logout_of (session c s)) []
+all_notes s _ m = []
 
 -- As many of them as there is room for.
-abbrev pub notes_of : ServerState → Event → Outcome → ServerState → List Note
-notes_of old e outcome new = take NOTE_LIMIT (all_notes old e (refused_after outcome) new)
+abbrev pub notes_of : ServerState → Event → Outcome → List Note
+notes_of s e outcome = take NOTE_LIMIT (all_notes s e (refused_after outcome))
 
 -- These are noted of an event.
 abbrev pub IsNoted : ServerState → Event → Outcome → RunningServer → Type 0
-IsNoted old e outcome new = new.notes ≡ notes_of old e outcome new.state
+IsNoted old e outcome new = new.notes ≡ notes_of old e outcome
 
--- There is room for all that is noted of an event.
+-- A driver's bytes are as many as the loop reads at once.
+abbrev pub IsReadAtOnce : Event → Type 0
+IsReadAtOnce (DriverBytes u piece) = length piece ≤ DRIVER_READ_LIMIT
+IsReadAtOnce _ = Unit {0}
+
+-- There is room for all that is noted of such an event.
 abbrev pub NoNoteIsCut : Type 0
 NoNoteIsCut =
-    (old new : ServerState) (e : Event) (outcome : Outcome) → IsSound old
-    → notes_of old e outcome new ≡ all_notes old e (refused_after outcome) new
+    (s : ServerState) (e : Event) (outcome : Outcome) → IsSound s → IsReadAtOnce e
+    → notes_of s e outcome ≡ all_notes s e (refused_after outcome)

@@ -1,6 +1,6 @@
 -- What the private parts of the server promise one another. A reader of the public contracts needs
 -- none of it.
-use Rattle.std.specs.Prelude.{◌≡◌, ◌<◌, ◌≤◌, ◌-◌, ◌⊎◌, ◌==◌, ℕ, true, false}
+use Rattle.std.specs.Prelude.{◌≡◌, ◌<◌, ◌≤◌, ◌-◌, ◌⊎◌, ◌==◌, ◌++◌, ℕ, true, false}
 use Rattle.std.specs.Prelude.{List, [], Option, Some, None, Result, Ok, Err, IsTrue, length, drop}
 use Rattle.std.specs.Prelude.{take, map, slice_get}
 use Rattle.std.specs.List.{position_or_len}
@@ -26,36 +26,30 @@ use Rattle.nutparse.specs.declared.command.Command.{Command}
 use Rattle.nutparse.specs.declared.err_word.ErrWord.{ErrWord}
 use Rattle.nutparse.specs.ErrWord.{error_line}
 use Rattle.nutcore.specs.Session.{SessionState}
-use Rattle.nutwords.specs.WholeLines.{unfinished_after, is_too_long}
+use Rattle.nutwords.specs.WholeLines.{whole_lines, unfinished_after, is_too_long}
 use Rattle.nutdriver.specs.declared.report.LineOutcome.{LineOutcome}
-use Rattle.nutdriver.specs.Report.{after_line}
-use Rattle.nutcore.specs.Ups.{UpsState, free_room, after_loss, with_unfinished}
-use Rattle.nutcore.specs.Step.{after_driver_line, after_driver_text, wants_driver_memory}
+use Rattle.nutdriver.specs.Report.{after_line, line_changes, end_in}
+use Rattle.nuttracking.specs.Tracking.{TrackingState}
+use Rattle.nutcore.specs.Reports.{with_end, is_unawaited, after_ends}
+use Rattle.nutcore.specs.Ups.{UpsState, free_room, with_unfinished, as_far, after_text}
+use Rattle.nutcore.specs.Ups.{ups_after_text, wants_memory_at}
+use Rattle.nutcore.specs.Step.{refused_after}
 use Rattle.nutusers.specs.declared.ups_list.UpsId.{UpsId}
 use Rattle.std.specs.Option.{option_map, option_and_then}
-use denote.Ref.{MutBor}
-use Rattle.std.specs.Fn.{Once, FnOnceTakesAtMut, FnOnceReturnsAtMut}
-use Rattle.nutcore.specs.Sound.{IsSoundUps}
-use Rattle.nutcore.specs.Calls.{is_connected}
-use Rattle.nutcore.specs.Server.{ServerState, ups_at, with_ups_changed}
+use Rattle.nutcore.specs.Calls.{is_connected, done}
+use Rattle.nutcore.specs.Server.{ServerState, ups_at}
 use Rattle.nutcore.specs.Reply.{seen, asker, text_to, refusal_by, change_by, seen_client}
 use Rattle.nutcore.specs.declared.cost.Cost.{Cost}
 use Rattle.nutcore.specs.History.{owed, of_line}
 use Rattle.nutcore.specs.declared.note.Note.{Note}
 use Rattle.nutcore.specs.declared.note.TheConstants.{NOTE_LIMIT}
-use Rattle.nutcore.specs.declared.note.Look.{Look}
-use Rattle.nutcore.specs.Notes.{deed_of, note_of_change, note_of, refusal_note, status_note}
-use Rattle.nutcore.specs.Notes.{data_note}
+use Rattle.nutcore.specs.Notes.{deed_of, note_of_change, note_of, line_notes, text_notes}
 use Rattle.nutcore.specs.Cost.{RunningServer}
 use Rattle.nutcore.specs.Pump.{pumped, after_all_lines, after_lines, is_overlong, wants_memory}
 use Rattle.nutcore.specs.Pump.{shares_version_read, next_line, next_line_for, holds_overlong}
 use Rattle.nutcore.specs.declared.session.Next.{Next}
 use Rattle.nutcore.specs.declared.session.Next.TheVariants as nexts
 use Rattle.nutwords.specs.declared.limits.TheConstants.{LINE_LIMIT}
-use Rattle.nutwords.specs.Found.{FindsLine, Finds}
-use Rattle.nutwords.specs.declared.cut.Found.{Found}
-use Rattle.nutdriver.specs.Report.{line_changes}
-use Rattle.nutwords.specs.declared.cut.Found.TheVariants as found
 
 -- A line: so many bytes at the front of a piece, or else what is held.
 abbrev pub front_or : Option ℕ → List ℕ → List ℕ → List ℕ
@@ -67,21 +61,60 @@ abbrev pub IsFront : Option ℕ → List ℕ → Type 0
 IsFront None piece = Unit {0}
 IsFront (Some n) piece = (n ≤ length piece) × (n ≤ LINE_LIMIT)
 
--- Where the next line of its driver is, for a UPS and a piece that it borrows. It changes only what
--- the UPS holds.
-pub record IsCut (piece : List ℕ) (old : UpsState) (result : Found) (new : UpsState) : Type 0 where
-  pub finds : Finds old.unfinished piece result new.unfinished
-  pub leaves : new ≡ with_unfinished new.unfinished old
+-- What a line of its driver does: it is done, settles the order that it reports on, and is noted; and
+-- nothing is held.
+pub record DoesLine (max_age moment : ℕ) (u : UpsId) (line : List ℕ) (old : UpsState)
+    (orders : TrackingState) (notes : List Note) (new : UpsState) (settled : TrackingState)
+    (noted : List Note) : Type 0 where
+  pub leaves : new
+      ≡ with_unfinished []
+      (after_text moment (is_unawaited u.place (end_in line) orders) old line)
+  pub settles : settled ≡ with_end u.place (end_in line) orders
+  pub notes_it : noted
+      ≡ take NOTE_LIMIT
+      (notes
+      ++ line_notes max_age moment u (is_unawaited u.place (end_in line) orders) old line)
 
--- What a line does to the UPS of its driver: it is done, its outcome given, and nothing is held; or
--- it would change the tree, and memory was refused, and it was heard, no more.
-abbrev pub DoesLine : ℕ → List ℕ → UpsState → Result LineOutcome AllocError → UpsState → Type 0
-DoesLine moment line old (Ok outcome) new =
-    let r = after_line moment old.report line in
-    (outcome ≡ r.1) × (new ≡ record (with_unfinished [] old) { report = r.0 })
-DoesLine moment line old (Err e) new =
-    (line_changes old.report.tree line ≡ true)
-    × (new ≡ record old { report = record old.report { heard = moment } })
+-- Before its outcome changes anything beside the report.
+pub record IsApplied (moment : ℕ) (line : List ℕ) (old : UpsState) (outcome : LineOutcome)
+    (new : UpsState) : Type 0 where
+  pub done : after_line moment old.report line ≡ (new.report, outcome)
+  pub leaves : new ≡ record (with_unfinished [] old) { report = new.report }
+
+abbrev pub with_hearing : ℕ → UpsState → UpsState
+with_hearing moment x = record x { report = record x.report { heard = moment } }
+
+-- It would change the tree, and memory was refused: it was heard, no more.
+pub record LacksMemory (moment : ℕ) (line : List ℕ) (old : UpsState) (orders : TrackingState)
+    (notes : List Note) (new : UpsState) (settled : TrackingState) (noted : List Note) : Type 0 where
+  pub changes : line_changes old.report.tree line ≡ true
+  pub heard : new ≡ with_hearing moment old
+  pub settles : settled ≡ orders
+  pub notes_it : noted ≡ notes
+
+-- What it reported does: its whole lines, one by one, and the rest; or its first k lines, where the
+-- next wants memory that is refused.
+abbrev pub IsAnswered : ℕ → ℕ → TrackingState → List ℕ → UpsState → Result (Unit {0}) Fault
+    → Type 0
+IsAnswered moment place orders text x (Ok t) = is_too_long (unfinished_after text) ≡ false
+IsAnswered moment place orders text x (Err LineTooLong) =
+    is_too_long (unfinished_after text) ≡ true
+IsAnswered moment place orders text x (Err (Memory k)) =
+    wants_memory_at moment place orders text k x ≡ true
+IsAnswered moment place orders text x (Err fault) = ⊥
+
+pub record Reports (max_age moment : ℕ) (u : UpsId) (text : List ℕ) (old : UpsState)
+    (orders : TrackingState) (notes : List Note) (result : Result (Unit {0}) Fault)
+    (new : UpsState) (settled : TrackingState) (noted : List Note) : Type 0 where
+  pub answers : IsAnswered moment u.place orders text old result
+  pub leaves : new
+      ≡ ups_after_text moment u.place orders text (refused_after (done result)) old
+  pub settles : settled
+      ≡ after_ends u.place (as_far (refused_after (done result)) (whole_lines text)) orders
+  pub notes_it : noted
+      ≡ take NOTE_LIMIT
+      (notes
+      ++ text_notes max_age moment u orders text (refused_after (done result)) old)
 
 -- What a driver's taking of n bytes leaves of its UPS: it took no more than it is owed, or nothing
 -- changed.
@@ -186,89 +219,15 @@ AnswersEach view who read result =
     (s : ServerState) (c : ℕ) (line : List ℕ) → view ≡ seen s → who ≡ asker c s
     → read_command line ≡ read → RepliesOrLacks s c line result
 
--- what a driver reported leaves of the server: all its whole lines and the rest, or what its first
--- k lines leave, where the next wants memory that is refused
-abbrev pub HasReported : UpsId → List ℕ → ServerState → Result (Unit {0}) Fault → ServerState
-    → Type 0
-HasReported u text old (Ok t) new =
-    (is_too_long (unfinished_after text) ≡ false) × (new ≡ after_driver_text u text None old)
-HasReported u text old (Err LineTooLong) new =
-    (is_too_long (unfinished_after text) ≡ true) × (new ≡ after_driver_text u text None old)
-HasReported u text old (Err (Memory k)) new =
-    (wants_driver_memory u text k old ≡ true) × (new ≡ after_driver_text u text (Some k) old)
-HasReported u text old (Err fault) new = ⊥
-
 -- an event of a UPS's driver is refused so: there is no such UPS, or no driver is connected to it
 abbrev pub IsNotConnected : UpsId → Fault → ServerState → Type 0
 IsNotConnected u fault s =
     ((fault ≡ NoSuchUps) × (ups_at u.place s ≡ None))
     ⊎ ((fault ≡ NotConnected) × (option_map is_connected (ups_at u.place s) ≡ Some false))
 
--- before the driver is taken as lost: the same by what it would be then
-abbrev pub IsStopped : UpsId → List ℕ → ServerState → Result (Unit {0}) Fault → ServerState → Type 0
-IsStopped u text old (Ok t) new = HasReported u text old (Ok t) new
-IsStopped u text old (Err fault) new =
-    HasReported u text old (Err fault) (with_ups_changed after_loss u new)
-
--- the server on which a UPS holds nothing
-abbrev pub holding_nothing : UpsId → ServerState → ServerState
-holding_nothing u s = with_ups_changed (with_unfinished []) u s
-
--- what a whole line of a driver does to the server: its step, and nothing of it is held; or it
--- would change the tree, and memory was refused
-abbrev pub ExecutesDriverLine : UpsId → List ℕ → UpsState → ServerState
-    → Result (Unit {0}) AllocError → ServerState → Type 0
-ExecutesDriverLine u line x old (Ok t) new = new ≡ after_driver_line u line (holding_nothing u old)
-ExecutesDriverLine u line x old (Err e) new =
-    (line_changes x.report.tree line ≡ true)
-    × (with_ups_changed after_loss u new ≡ with_ups_changed after_loss u old)
-
--- what the next line of a driver does, which lies in what its UPS holds and the piece: its step,
--- and it takes so many bytes of the piece; or none is whole, and all of the piece is kept; or it is
--- too long; or it would change the tree, and memory was refused
-abbrev pub ReadsDriverLine : UpsId → List ℕ → ℕ → UpsState → ServerState → Result (Option ℕ) Fault
-    → ServerState → Type 0
-ReadsDriverLine u piece done x old (Ok (Some used)) new =
-    (line : List ℕ) × FindsLine x.unfinished piece line used
-    × (new ≡ after_driver_line u line (holding_nothing u old))
-ReadsDriverLine u piece done x old (Ok None) new =
-    (kept : List ℕ) × Finds x.unfinished piece found.NeedsMore kept
-    × (new ≡ with_ups_changed (with_unfinished kept) u old)
-ReadsDriverLine u piece done x old (Err LineTooLong) new =
-    (kept : List ℕ) × Finds x.unfinished piece found.TooLong kept
-    × (new ≡ with_ups_changed (with_unfinished kept) u old)
-ReadsDriverLine u piece done x old (Err (Memory k)) new =
-    (k ≡ done) × (line : List ℕ) × (used : ℕ) × FindsLine x.unfinished piece line used
-    × (line_changes x.report.tree line ≡ true)
-    × (with_ups_changed after_loss u new ≡ with_ups_changed after_loss u old)
-ReadsDriverLine u piece done x old (Err fault) new = ⊥
-
 -- of the UPS, which is there
 abbrev pub OfUps : UpsId → ServerState → (UpsState → Type 0) → Type 0
 OfUps u s P = (x : UpsState) → ups_at u.place s ≡ Some x → P x
-
--- f may be called at a UPS of the server,
-abbrev pub MayChangeUps : {F R : Type 0} → Once F (MutBor UpsState × Unit {0}) R → F → UpsId
-    → ServerState → Type 0
-MayChangeUps g f u s = OfUps u s (FnOnceTakesAtMut g f)
-
--- keeps it sound,
-abbrev pub KeepsUpsSound : {F R : Type 0}
-    → Once F (MutBor UpsState × Unit {0}) (R × (MutBor UpsState × Unit {0})) → F → UpsId
-    → ServerState → Type 0
-KeepsUpsSound {F} {R} g f u s =
-    (x y : UpsState) (r : R) → ups_at u.place s ≡ Some x → FnOnceReturnsAtMut g f x r y
-    → IsSoundUps s.moment x → IsSoundUps s.moment y
-
--- and changes it, and nothing else
-pub record ChangesUps {F R : Type 0}
-    (g : Once F (MutBor UpsState × Unit {0}) (R × (MutBor UpsState × Unit {0}))) (f : F) (u : UpsId)
-    (old : ServerState) (result : R) (new : ServerState) : Type 0 where
-  pub before : UpsState
-  pub after : UpsState
-  pub there : ups_at u.place old ≡ Some before
-  pub called : FnOnceReturnsAtMut g f before result after
-  pub leaves : new ≡ with_ups_changed (λ x. after) u old
 
 -- where all lines were counted, all are, of what is offered to this client
 abbrev pub KeepsCost : ℕ → RunningServer → RunningServer → Type 0
@@ -296,10 +255,3 @@ next_note s c next = option_and_then (λ line. note_of (of_line s c line)) next
 
 abbrev pub with_next : ServerState → ℕ → List Note → List Note
 with_next s c notes = with_note (next_note s c (next_line_for s c)) notes
-
--- the notes, and those of a UPS that looked so and looks so
-abbrev pub with_changes : UpsId → Option Look → Option Look → List Note → List Note
-with_changes u (Some was) (Some is) notes =
-    with_note (data_note u was.state is.state)
-    (with_note (status_note u was.status is.status) (with_note (refusal_note u was is) notes))
-with_changes u _ _ notes = notes

@@ -1,6 +1,7 @@
 -- What holds of every server that events made of a new one.
 use Rattle.std.specs.Prelude.{◌≡◌, ◌≤◌, ℕ, true, false, List, [], ◌∷◌, None, length}
 use Rattle.nutwords.specs.declared.limits.TheConstants.{LINE_LIMIT}
+use Rattle.nutwords.specs.SplitLine.{split_line}
 use Rattle.nuttracking.specs.Sound.{IsSoundTracking, HaveLawfulNumbers}
 use Rattle.nutdriver.specs.Sound.{IsSoundTree}
 use Rattle.nutlisting.specs.declared.listing.clients.TheConstants.{SESSION_LIMIT}
@@ -31,7 +32,7 @@ pub record IsSoundSession (x : SessionState) : Type 0 where
 
 -- A UPS, at this moment: the tree that its driver reported is sound; nothing was heard or asked
 -- later than now; its driver is owed no more than it may be, and of its next line no more came than
--- a line may have; and where no driver is connected, none has reported or been asked anything,
+-- a line may have, and no LF; and where no driver is connected, none has reported or been asked anything,
 -- nothing came of a line, and nothing is owed: it is a new one except for a forced shutdown and the
 -- count of faults.
 pub record IsSoundUps (moment : ℕ) (x : UpsState) : Type 0 where
@@ -40,8 +41,8 @@ pub record IsSoundUps (moment : ℕ) (x : UpsState) : Type 0 where
   pub pinged : x.pinged ≤ moment
   pub owed : length x.owed ≤ DRIVER_OWED_LIMIT
   pub unfinished : length x.unfinished ≤ LINE_LIMIT
-  pub lost : x.report.connected ≡ false → x
-      ≡ record new_ups { fsd = x.fsd; faulty = x.faulty; fault = x.fault }
+  pub one_line : split_line x.unfinished ≡ None
+  pub lost : x.report.connected ≡ false → x ≡ record new_ups { fsd = x.fsd; faulty = x.faulty }
 
 -- The seconds are a greatest age of what a driver reported: from 3 to 86,400.
 abbrev pub IsMaxAge : ℕ → Type 0

@@ -1,7 +1,7 @@
 -- What each event does, and which outcome it has.
 use Rattle.std.specs.Prelude.{◌≡◌, ℕ, ◌+◌, ◌-◌, ◌^◌, Bool, false, List, [], ◌∷◌, ◌++◌, Option, Some}
 use Rattle.std.specs.Prelude.{None, nat_lt, nat_le, ◌&&◌, if◌then◌else◌, length, take, drop, min}
-use Rattle.std.specs.Prelude.{max, map, fold, slice_get, not, ◌⊎◌, IsTrue}
+use Rattle.std.specs.Prelude.{max, map, not, ◌⊎◌, IsTrue}
 use Rattle.std.specs.Option.{option_map_or}
 use Rattle.nutusers.specs.declared.ups_list.UpsId.{UpsId}
 use Rattle.nutcore.specs.declared.TheConstants.{HELD_LIMIT}
@@ -21,11 +21,10 @@ use Rattle.nuttracking.specs.declared.tracking.IdFault.{IdFault}
 use Rattle.nuttracking.specs.declared.tracking.IdFault.TheVariants.{Known, TooMany}
 use Rattle.nuttracking.specs.Tracking.{id_fault, with_id}
 use Rattle.nutcore.specs.Session.{SessionState, new_session, without}
-use Rattle.nutwords.specs.WholeLines.{whole_lines, unfinished_after, is_too_long}
-use Rattle.nutdriver.specs.Report.{end_in}
-use Rattle.nutcore.specs.Reports.{with_end, is_unawaited}
-use Rattle.nutcore.specs.Ups.{UpsState, after_connecting, after_loss, after_tick, after_text}
-use Rattle.nutcore.specs.Ups.{with_unfinished, wants_memory_for}
+use Rattle.nutwords.specs.WholeLines.{unfinished_after, is_too_long}
+use Rattle.nutcore.specs.Reports.{after_ends}
+use Rattle.nutcore.specs.Ups.{UpsState, after_connecting, after_loss, after_tick, lines_of}
+use Rattle.nutcore.specs.Ups.{ups_after_bytes, wants_memory_at}
 use Rattle.nutcore.specs.Server.{ServerState, session, with_session_changed, ups_at}
 use Rattle.nutcore.specs.Server.{with_ups_changed, with_tracking}
 use Rattle.nutcore.specs.Pump.{pumped, after_all_lines, after_lines, is_overlong, wants_memory}
@@ -85,37 +84,18 @@ connected moment x = if x.report.connected then x else after_connecting moment x
 abbrev pub disconnected : UpsState → UpsState
 disconnected x = if x.report.connected then after_loss x else x
 
--- Drivers report. A whole line of a driver is a step of the server, at its moment: it changes the
--- driver's UPS, and where it reports how an order ended that this UPS waits for, that order.
-unfoldable pub after_driver_line : UpsId → List ℕ → ServerState → ServerState
-after_driver_line u line s =
-    with_tracking (with_end u.place (end_in line) s.tracking)
-    (with_ups_changed
-    (λ x. after_text s.moment (is_unawaited u.place (end_in line) s.tracking) x line) u s)
+-- Drivers report. What came changes the driver's UPS, at the server's moment; and where these lines
+-- report how orders ended that this UPS waits for, these orders.
+abbrev pub changed_both : (UpsState → UpsState) → List (List ℕ) → UpsId → ServerState → ServerState
+changed_both f lines u s =
+    with_tracking (after_ends u.place lines s.tracking) (with_ups_changed f u s)
 
--- The server after these lines, one by one.
-abbrev pub after_driver_lines : UpsId → List (List ℕ) → ServerState → ServerState
-after_driver_lines u lines s = fold (λ t line. after_driver_line u line t) s lines
+unfoldable pub lines_read : UpsId → List ℕ → Option ℕ → ServerState → List (List ℕ)
+lines_read u piece m s = option_map_or (lines_of piece m) (ups_at u.place s) []
 
--- The rest stays unfinished, or the driver is lost where that is too long.
-abbrev pub with_rest : List ℕ → UpsState → UpsState
-with_rest rest x = if is_too_long rest then after_loss x else with_unfinished rest x
-
--- What a driver reported is whole lines and a rest: the server after these lines, with the rest;
--- or, where memory was refused after k of them, after these k, the driver lost.
-unfoldable pub after_driver_text : UpsId → List ℕ → Option ℕ → ServerState → ServerState
-after_driver_text u text None s =
-    with_ups_changed (with_rest (unfinished_after text)) u
-    (after_driver_lines u (whole_lines text) s)
-after_driver_text u text (Some k) s =
-    with_ups_changed after_loss u (after_driver_lines u (take k (whole_lines text)) s)
-
--- A piece is read after what was unfinished. Where no driver is connected, nothing changes.
 unfoldable pub after_driver_bytes : UpsId → List ℕ → Option ℕ → ServerState → ServerState
 after_driver_bytes u piece m s =
-    option_map_or
-    (λ x. if x.report.connected then after_driver_text u (x.unfinished ++ piece) m s else s)
-    (ups_at u.place s) s
+    changed_both (ups_after_bytes s.moment u.place s.tracking piece m) (lines_read u piece m s) u s
 
 -- The driver took n bytes of what it is owed.
 abbrev pub driver_may_take : ℕ → UpsState → Bool
@@ -226,15 +206,12 @@ outcome_of s (Took c n) =
 outcome_of s (Close c) = closed_by (session c s)
 outcome_of s (Id id) = id_outcome (id_fault id s.tracking)
 
--- There is a whole line after the first k of what a driver reported, and it would change the tree.
-unfoldable pub wants_driver_memory : UpsId → List ℕ → ℕ → ServerState → Bool
-wants_driver_memory u text k s =
-    option_map_or (wants_memory_for (slice_get (whole_lines text) k))
-    (ups_at u.place (after_driver_lines u (take k (whole_lines text)) s)) false
-
+-- A driver is connected, and of what it reported the line after the first k wants memory.
 abbrev pub driver_may_lack_memory : UpsId → List ℕ → ℕ → ServerState → Bool
 driver_may_lack_memory u piece k s =
-    option_map_or (λ x. x.report.connected && wants_driver_memory u (x.unfinished ++ piece) k s)
+    option_map_or
+    (λ x. x.report.connected
+    && wants_memory_at s.moment u.place s.tracking (x.unfinished ++ piece) k x)
     (ups_at u.place s) false
 
 -- Memory may be refused after k lines of the event. The next line of a client stays held, to be

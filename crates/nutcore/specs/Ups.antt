@@ -1,9 +1,9 @@
 -- A UPS: its driver's connection and report, and what each event leaves of them.
 use Rattle.std.specs.Prelude.{ℕ, ◌+◌, ◌-◌, ◌^◌, Bool, true, false, List, [], ◌∷◌, ◌++◌, Option}
-use Rattle.std.specs.Prelude.{Some, None, codes, length, min, nat_le, ◌&&◌, ◌/◌}
+use Rattle.std.specs.Prelude.{Some, None, codes, length, min, nat_le, ◌&&◌, ◌/◌, take, slice_get}
 use Rattle.std.specs.Prelude.{if◌then◌else◌}
 use Rattle.nutcore.specs.declared.TheConstants.{DRIVER_OWED_LIMIT}
-use Rattle.nutdriver.specs.declared.fault.DriverFault.{DriverFault}
+use Rattle.nutwords.specs.WholeLines.{whole_lines, unfinished_after, is_too_long}
 use Rattle.nutdriver.specs.declared.report.Report.{Report}
 use Rattle.nutdriver.specs.declared.report.LineOutcome.{LineOutcome}
 use Rattle.nutdriver.specs.declared.report.LineOutcome.TheVariants.{Accepted, Tracked, Refused}
@@ -14,8 +14,7 @@ use Rattle.nutcore.specs.Reports.{with_end, is_unawaited}
 
 -- report: what its driver has reported. pinged: the moment of the last PING to it, in seconds. fsd:
 -- a forced shutdown is set. owed: what the driver is still to be sent. unfinished: what came of its
--- next line. faulty: how many of its lines were refused. fault: why the last one
--- was, none where it reported on an order that isn't awaited.
+-- next line. faulty: how many of its lines were refused.
 pub record UpsState : Type 0 where
   pub report : Report
   pub pinged : ℕ
@@ -23,7 +22,6 @@ pub record UpsState : Type 0 where
   pub owed : List ℕ
   pub unfinished : List ℕ
   pub faulty : ℕ
-  pub fault : Option DriverFault
 
 -- A UPS of a new server.
 abbrev pub new_ups : UpsState
@@ -35,7 +33,6 @@ new_ups =
       owed = [];
       unfinished = [];
       faulty = 0;
-      fault = None;
     }
 
 -- Its driver is connected, and is asked for all that it knows.
@@ -88,13 +85,8 @@ after_tick max_age moment x =
 abbrev pub greatest_count : ℕ
 greatest_count = 2 ^ 64 - 1
 
-abbrev pub with_faulty_line : Option DriverFault → UpsState → UpsState
-with_faulty_line fault x =
-    record x { faulty = min (x.faulty + 1) greatest_count; fault = fault }
-
-abbrev pub fault_of : LineOutcome → Option DriverFault
-fault_of (Refused fault) = Some fault
-fault_of _ = None
+abbrev pub with_faulty_line : UpsState → UpsState
+with_faulty_line x = record x { faulty = min (x.faulty + 1) greatest_count }
 
 -- The line is refused: so is a report on an order that isn't awaited.
 abbrev pub is_refused : Bool → LineOutcome → Bool
@@ -105,7 +97,7 @@ is_refused unawaited (Refused fault) = true
 abbrev pub after_outcome : Bool → UpsState → Report × LineOutcome → UpsState
 after_outcome unawaited x r =
     let y : UpsState = record x { report = r.0 } in
-    if is_refused unawaited r.1 then with_faulty_line (fault_of r.1) y else y
+    if is_refused unawaited r.1 then with_faulty_line y else y
 
 -- A whole line does what it says of the report, and is counted where it is refused.
 abbrev pub after_text : ℕ → Bool → UpsState → List ℕ → UpsState
@@ -123,7 +115,40 @@ after_texts moment place t (line ∷ lines) x =
 abbrev pub with_unfinished : List ℕ → UpsState → UpsState
 with_unfinished bytes x = record x { unfinished = bytes }
 
+-- The rest stays unfinished, or the driver is lost where that is too long.
+abbrev pub with_rest : List ℕ → UpsState → UpsState
+with_rest rest x = if is_too_long rest then after_loss x else with_unfinished rest x
+
+-- Of these lines, those that are done: all, or as many as memory let.
+abbrev pub as_far : Option ℕ → List (List ℕ) → List (List ℕ)
+as_far None lines = lines
+as_far (Some k) lines = take k lines
+
+-- What its driver reported is whole lines and a rest: the UPS after these lines, with the rest; or,
+-- where memory was refused after k of them, after these k, the driver lost.
+abbrev pub ups_after_text : ℕ → ℕ → TrackingState → List ℕ → Option ℕ → UpsState → UpsState
+ups_after_text moment place t text None x =
+    with_rest (unfinished_after text) (after_texts moment place t (whole_lines text) x)
+ups_after_text moment place t text (Some k) x =
+    after_loss (after_texts moment place t (take k (whole_lines text)) x)
+
+-- A piece is read after what was unfinished. Where no driver is connected, nothing changes.
+abbrev pub ups_after_bytes : ℕ → ℕ → TrackingState → List ℕ → Option ℕ → UpsState → UpsState
+ups_after_bytes moment place t piece m x =
+    if x.report.connected then ups_after_text moment place t (x.unfinished ++ piece) m x else x
+
+-- The lines that are done then.
+abbrev pub lines_of : List ℕ → Option ℕ → UpsState → List (List ℕ)
+lines_of piece m x =
+    if x.report.connected then as_far m (whole_lines (x.unfinished ++ piece)) else []
+
 -- The line, if there is one, would change the tree, for which memory may be refused.
 abbrev pub wants_memory_for : Option (List ℕ) → UpsState → Bool
 wants_memory_for None x = false
 wants_memory_for (Some line) x = line_changes x.report.tree line
+
+-- There is a whole line after the first k of what its driver reported, and it would change the tree.
+abbrev pub wants_memory_at : ℕ → ℕ → TrackingState → List ℕ → ℕ → UpsState → Bool
+wants_memory_at moment place t text k x =
+    wants_memory_for (slice_get (whole_lines text) k)
+    (after_texts moment place t (take k (whole_lines text)) x)

@@ -283,14 +283,16 @@ pub fn each_event_is_bounded()
     ensures { EachEventIsBounded }
 {}
 
-/// There is room for all that is noted of an event.
+/// There is room for all that is noted of an event, if a driver's bytes are at most 512 at once, as
+/// the loop reads them.
 #[tactic(auto, using(crate::proofs::NoteRoom::no_note_is_cut))]
 pub fn no_note_is_cut()
     ensures { NoNoteIsCut }
 {}
 
-/// The notes of all events of a run, in order, are what changed: each change of a UPS's data, each
-/// login and logout of a client, and what each executed line did, once.
+/// The notes of all events of a run, in order, are what changed: each change of a UPS's data and
+/// status, each refused line of its driver, each login and logout of a client, and what each
+/// executed line did, once. Drivers' bytes are read as in the law before.
 #[tactic(auto, using(crate::proofs::NotedRuns::noted_runs))]
 pub fn the_notes_of_a_run_are_what_changed()
     ensures { TheNotesOfARunAreWhatChanged }

@@ -29,3 +29,6 @@ pub const HELD_LIMIT: usize = LINE_ROOM;
 
 /// The most bytes that a driver is still to be sent.
 pub const DRIVER_OWED_LIMIT: usize = 2048;
+
+/// The most bytes that the server is handed at once of what a driver sent.
+pub const DRIVER_READ_LIMIT: usize = 512;

@@ -11,7 +11,8 @@ use nutusers::{UpsId, UserName};
 use nutwords::{Address, Name, UpsName, Value};
 use std::fmt::{self, Formatter, Write};
 
-/// The most notes of an event: those of as many lines as a session holds.
+/// The most notes of an event: those of as many lines as a session holds. A driver's read has
+/// fewer: three of each line, and two of its loss.
 pub const NOTE_LIMIT: usize = HELD_LIMIT;
 
 /// What an event did. It has names, and never a value or a password.
@@ -19,11 +20,11 @@ pub const NOTE_LIMIT: usize = HELD_LIMIT;
 pub enum Note {
     /// The data of the UPS have this state from now on.
     Data(UpsId, DataState),
-    /// The driver reports another `ups.status`.
-    StatusChanged(UpsId),
-    /// So many lines of the driver were refused, and why the last one was: none where it reported
-    /// on an order that isn't awaited.
-    LinesRefused(UpsId, u64, Option<DriverFault>),
+    /// The driver reports another `ups.status`: none where it takes it away, or is lost.
+    StatusChanged(UpsId, Option<Value>),
+    /// A line of the driver was refused, and why: none where it reported on an order that isn't
+    /// awaited.
+    LineRefused(UpsId, Option<DriverFault>),
     /// A session has logged in to the UPS.
     LoggedIn(UpsId, Who),
     /// A session that is logged in to the UPS begins to end, or is closed.
@@ -96,19 +97,6 @@ pub struct Deed {
     pub name: Option<Name>,
     /// Why the line was refused, if it was.
     pub refusal: Option<ErrWord>,
-}
-
-/// What is compared of a UPS from before an event to after it.
-#[derive(Default, Drop)]
-pub(crate) struct Look {
-    /// How many lines of its drivers were refused.
-    pub refused: u64,
-    /// Why the last one was.
-    pub fault: Option<DriverFault>,
-    /// Its `ups.status`, if its driver has reported one.
-    pub status: Option<Value>,
-    /// The state of its data.
-    pub state: DataState,
 }
 
 /// The notes of an event.

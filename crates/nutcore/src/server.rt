@@ -30,11 +30,12 @@ pub use self::status::Standing;
 use self::status::note_stale;
 use crate::cost::Cost;
 use crate::event::{ClientId, Event, Fault, Outcome};
+use crate::laws::every_server_is_sound;
 use crate::max_age::MaxAge;
-use crate::note::{Look, Note, Notes};
+use crate::note::{Note, Notes};
 use crate::scratch::Scratch;
 use crate::session::Session;
-use crate::ups::Ups;
+use crate::ups::{Moment, Ups};
 use nutdriver::laws::{
     each_line_keeps_the_tree_sound, lawful_lines_keep_trees_sound, read_lines_are_lawful,
 };
@@ -253,13 +254,9 @@ impl Server {
         if self.ups_of(u)?.report.connected {
             return Err(Fault::AlreadyConnected);
         }
-        let mut was = Look::default();
-        self.look(u, &mut was);
-        lawful_lines_keep_trees_sound();
-        each_line_keeps_the_tree_sound();
-        let moment = self.moment;
-        self.with_ups(u, |ups| ups.connect(moment));
-        self.note_changes(u, &was);
+        every_server_is_sound();
+        let ups = &mut self.upses[u.place as usize];
+        ups.connect(u, self.moment, &mut self.notes);
         Ok(())
     }
 
@@ -279,11 +276,13 @@ impl Server {
     {
         self.forget();
         self.connected(u)?;
-        let mut was = Look::default();
-        self.look(u, &mut was);
-        let result = self.feed_driver(u, piece);
-        self.note_changes(u, &was);
-        result
+        every_server_is_sound();
+        let now = Moment {
+            seconds: self.moment,
+            max_age: self.max_age,
+        };
+        let ups = &mut self.upses[u.place as usize];
+        ups.report(u, now, piece, &mut self.tracking, &mut self.notes)
     }
 
     /// What is offered to the driver: all that it is owed, at most 2,048 bytes, and nothing where
@@ -331,7 +330,9 @@ impl Server {
     {
         self.forget();
         self.connected(u)?;
-        self.with_ups(u, |ups| ups.take(n))
+        every_server_is_sound();
+        let ups = &mut self.upses[u.place as usize];
+        ups.take(n)
     }
 
     /// A driver is lost, and what it reported with it. Takes no memory.
@@ -347,12 +348,9 @@ impl Server {
     {
         self.forget();
         self.connected(u)?;
-        let mut was = Look::default();
-        self.look(u, &mut was);
-        lawful_lines_keep_trees_sound();
-        each_line_keeps_the_tree_sound();
-        self.with_ups(u, |ups| ups.disconnect());
-        self.note_changes(u, &was);
+        every_server_is_sound();
+        let ups = &mut self.upses[u.place as usize];
+        ups.lose(u, &mut self.notes);
         Ok(())
     }
 

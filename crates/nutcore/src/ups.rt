@@ -1,17 +1,24 @@
 //! A UPS as the server keeps it: its driver's connection, and what the driver reported.
-ghost use Rattle.std.specs.Prelude.{◌≡◌, ◌≤◌, Some, codes, length, option_copied};
-ghost use Rattle.nutcore.specs.Ups.{new_ups, after_connecting, after_loss, after_tick, with_fsd, free_room, with_order, with_faulty_line, UpsState};
-ghost use Rattle.nutcore.specs.Notes.{data_state_of, look_of, status_of};
-ghost use Rattle.nutcore.specs.Promises.{IsTaken, IsCut, DoesLine, IsFront, front_or, with_changes};
+ghost use Rattle.std.specs.Prelude.{◌≡◌, ◌≤◌, ◌++◌, Some, true, codes, drop, length, option_copied, take, IfOk, OnOk, OnErr};
+ghost use Rattle.nuttracking.specs.Tracking.{TrackingState};
+ghost use Rattle.nutcore.specs.Ups.{new_ups, after_connecting, after_loss, after_tick, with_fsd, free_room, with_order, with_faulty_line, is_refused, UpsState};
+ghost use Rattle.nutcore.specs.Reports.{with_end, is_unawaited};
+ghost use Rattle.nutcore.specs.Notes.{data_state_of, status_of, fault_of, loss_notes, status_note};
+ghost use Rattle.nutcore.specs.Promises.{IsTaken, DoesLine, IsApplied, LacksMemory, Reports, IsFront, front_or, with_hearing, with_note};
+ghost use Rattle.nutcore.specs.declared.note.DataState.TheVariants.{Awaited};
+ghost use Rattle.nutcore.specs.declared.note.Note.TheVariants.{Data};
+ghost use Rattle.nutcore.specs.declared.note.TheConstants.{NOTE_LIMIT};
 ghost use Rattle.nutdriver.specs.LastLine.{value_of};
+ghost use Rattle.nutdriver.specs.Report.{HasLawfulNumber, line_changes, reported_end};
 
 use crate::DRIVER_OWED_LIMIT;
 use crate::event::Fault;
-use crate::note::{DataState, Look, Note, Notes, data_note};
+use crate::note::{DataState, Note, Notes, data_note};
 use arrayvec::ArrayVec;
-use nutdriver::laws::other_lines_leave_the_value;
+use nutdriver::laws::{other_lines_leave_the_value, reported_numbers_are_lawful};
 use nutdriver::{DriverFault, DriverLine, LineOutcome, Report, Tree};
 use nutmap::Meter;
+use nuttracking::Tracking;
 use nutusers::UpsId;
 use nutwords::{Found, LineCut, Name, Value};
 use std::alloc::{AllocError, Global};
@@ -32,7 +39,6 @@ pub(crate) struct Ups {
     cut: LineCut,
     /// How many lines of its drivers were refused.
     pub(crate) faulty: u64,
-    fault: Option<DriverFault>,
     /// The value of its `ups.status`, which is looked up only where a line decides it.
     status: Option<Value>,
 }
@@ -51,7 +57,6 @@ impl Model for Ups {
       owed = u.owed.items;
       unfinished = u.cut;
       faulty = u.faulty;
-      fault = u.fault;
     } };
 
     ghost invariant = { λ u. u.status ≡ value_of u.report.tree (codes "ups.status") };
@@ -70,7 +75,6 @@ impl Ups {
             owed: ArrayVec::new(),
             cut: LineCut::new(),
             faulty: 0,
-            fault: None,
             status: None,
         }
     }
@@ -96,41 +100,6 @@ impl Ups {
         ensures { option_copied result ≡ status_of self.now }
     {
         Some(self.status.as_ref()?.as_bytes())
-    }
-
-    /// Looks at what is compared of it, at the moment.
-    pub(crate) fn look(&self, max_age: u32, moment: u64, look: &mut Look)
-        ensures { look.new ≡ look_of max_age moment self.now }
-    {
-        look.refused = self.faulty;
-        look.fault = self.fault;
-        look.state = self.data_state(max_age, moment);
-        match &self.status {
-            None => look.status = None,
-            Some(status) => copy_value(status, &mut look.status),
-        }
-    }
-
-    /// Notes how it differs at the moment from this earlier look.
-    pub(crate) fn note_changes(
-        &self,
-        u: UpsId,
-        was: &Look,
-        max_age: u32,
-        moment: u64,
-        notes: &mut Notes,
-    )
-        ensures { notes.new ≡ with_changes u (Some was.now)
-            (Some (look_of max_age moment self.now)) notes.old }
-    {
-        if self.faulty != was.refused {
-            let count = self.faulty.saturating_sub(was.refused);
-            notes.extend(Some(Note::LinesRefused(u, count, self.fault)));
-        }
-        if self.status.is_some() && self.status != was.status {
-            notes.extend(Some(Note::StatusChanged(u)));
-        }
-        notes.extend(data_note(u, was.state, self.data_state(max_age, moment)));
     }
 
     /// A forced shutdown is set.
@@ -182,18 +151,33 @@ impl Ups {
         }
     }
 
-    /// Its driver is connected, and is asked for all that it knows. Takes no memory.
-    pub(crate) fn connect(&mut self, moment: u64)
-        ensures { self.new ≡ after_connecting moment self.old }
+    /// Its driver is connected, which is noted, and is asked for all that it knows. Takes no
+    /// memory.
+    pub(crate) fn connect(&mut self, u: UpsId, moment: u64, notes: &mut Notes)
+        ensures connected { self.new ≡ after_connecting moment self.old }
+        ensures noted { notes.new ≡ with_note (Some (Data u Awaited)) notes.old }
     {
+        notes.extend(Some(Note::Data(u, DataState::Awaited)));
         self.disconnect();
         self.report = Report::connected(self.alloc, moment);
         self.pinged = moment;
         self.owed.try_extend_from_slice(b"DUMPALL\n").unwrap();
     }
 
-    /// Its driver is lost, and what it reported with it. Takes no memory.
-    pub(crate) fn disconnect(&mut self)
+    /// Its driver is lost, which is noted, and what it reported with it. Takes no memory.
+    pub(crate) fn lose(&mut self, u: UpsId, notes: &mut Notes)
+        ensures lost { self.new ≡ after_loss self.old }
+        ensures noted { notes.new ≡ take NOTE_LIMIT (notes.old ++ loss_notes u self.old) }
+    {
+        notes.extend(Some(Note::Data(u, DataState::Lost)));
+        if self.status.is_some() {
+            notes.extend(Some(Note::StatusChanged(u, None)));
+        }
+        self.disconnect();
+    }
+
+    /// It has no driver, and nothing that one reported.
+    fn disconnect(&mut self)
         ensures { self.new ≡ after_loss self.old }
     {
         self.report = Report::lost(self.alloc);
@@ -203,75 +187,183 @@ impl Ups {
         self.status = None;
     }
 
-    /// Where the next line of its driver is, in what it holds and a piece. Where none is whole, all
-    /// of the piece is held.
-    pub(crate) fn find_line(&mut self, piece: &[u8]) -> Found
-        ensures { IsCut piece.now self.old result self.new }
+    /// Does what the whole lines of its driver say, as far as they came, and notes it. Where 2,048
+    /// bytes come without an LF, or memory is refused, the driver is lost, and the rest is dropped.
+    ///
+    /// # Errors
+    ///
+    /// `LineTooLong`, and `Memory` with how many lines of the piece were done.
+    pub(crate) fn report(
+        &mut self,
+        u: UpsId,
+        now: Moment,
+        piece: &[u8],
+        tracking: &mut Tracking,
+        notes: &mut Notes,
+    ) -> Result<(), Fault>
+        requires room { length notes.old ≤ NOTE_LIMIT }
+        ensures { Reports now.max_age now.seconds u (self.old.unfinished ++ piece.now)
+            self.old tracking.old notes.old result self.new tracking.new notes.new }
     {
-        self.cut.find(piece)
+        let mut rest = piece;
+        let mut done = 0;
+        loop {
+            let (length, used) = match self.cut.find(rest) {
+                Found::InPiece(length) => (Some(length), length + 1),
+                Found::Joined(used) => (None, used),
+                Found::NeedsMore => return Ok(()),
+                Found::TooLong => {
+                    self.lose(u, notes);
+                    return Err(Fault::LineTooLong);
+                }
+            };
+            if self.execute(u, now, rest, length, tracking, notes).is_err() {
+                self.lose(u, notes);
+                return Err(Fault::Memory(done));
+            }
+            rest = unused(rest, used);
+            done += 1;
+        }
     }
 
-    /// Does what a whole line of its driver says: so many bytes at the front of the piece, or else
-    /// what it holds. It holds nothing any more. The answer is whether the line is refused, or what
-    /// it reports of an order.
+    /// Does what a whole line of its driver says, and notes it: so many bytes at the front of the
+    /// piece, or else what it holds. It holds nothing any more.
     ///
     /// # Errors
     ///
     /// Memory was refused, for which only a line that would change the tree asks. It was heard
     /// then, and changed nothing more.
-    pub(crate) fn execute(
+    fn execute(
         &mut self,
+        u: UpsId,
+        now: Moment,
+        piece: &[u8],
+        count: Option<usize>,
+        tracking: &mut Tracking,
+        notes: &mut Notes,
+    ) -> Result<(), AllocError>
+        requires front { IsFront count piece.now }
+        requires room { length notes.old ≤ NOTE_LIMIT }
+        ensures done { OnOk result (DoesLine now.max_age now.seconds u
+            (front_or count piece.now self.old.unfinished)
+            self.old tracking.old notes.old self.new tracking.new notes.new) }
+        ensures lacks { OnErr result (LacksMemory now.seconds
+            (front_or count piece.now self.old.unfinished)
+            self.old tracking.old notes.old self.new tracking.new notes.new) }
+    {
+        let was = self.data_state(now.max_age, now.seconds);
+        let outcome = self.apply(u, now.seconds, piece, count, notes)?;
+        if settle(u, outcome, tracking) {
+            self.count_refused();
+            notes.extend(Some(Note::LineRefused(u, fault_of(outcome))));
+        }
+        notes.extend(data_note(u, was, self.data_state(now.max_age, now.seconds)));
+        Ok(())
+    }
+
+    /// The same, without what its outcome changes beside the report: only another status is noted.
+    fn apply(
+        &mut self,
+        u: UpsId,
         moment: u64,
         piece: &[u8],
-        length: Option<usize>,
+        count: Option<usize>,
+        notes: &mut Notes,
     ) -> Result<LineOutcome, AllocError>
-        requires front { IsFront length piece.now }
-        ensures { DoesLine moment (front_or length piece.now self.old.unfinished)
-            self.old result self.new }
+        requires front { IsFront count piece.now }
+        ensures done { IfOk result (λ outcome. IsApplied moment
+            (front_or count piece.now self.old.unfinished) self.old outcome self.new) }
+        ensures noted { OnOk result (notes.new ≡ with_note
+            (status_note u (status_of self.old) (status_of self.new)) notes.old) }
+        ensures number { IfOk result HasLawfulNumber }
+        ensures changes { OnErr result (line_changes self.old.report.tree
+            (front_or count piece.now self.old.unfinished) ≡ true) }
+        ensures heard { OnErr result (self.new ≡ with_hearing moment self.old) }
+        ensures unnoted { OnErr result (notes.new ≡ notes.old) }
     {
         // What the variables say of their names: they rise.
         let _ = self.report.tree.variables().len();
         other_lines_leave_the_value();
-        let line = DriverLine::read(front_or(piece, length, self.cut.held()));
+        reported_numbers_are_lawful();
+        let line = DriverLine::read(front_or(piece, count, self.cut.held()));
         let outcome = self.report.execute(moment, &line, &mut Meter::new())?;
         if let Ok(line) = &line {
             if line.decides(b"ups.status") {
-                keep_status(&self.report.tree, &mut self.status);
+                keep_status(u, &self.report.tree, &mut self.status, notes);
             }
         }
         self.cut.clear();
         Ok(outcome)
     }
 
-    /// A line of its driver is refused, for this. The count stops at its greatest number.
-    pub(crate) fn count_refused(&mut self, fault: Option<DriverFault>)
-        ensures { self.new ≡ with_faulty_line fault self.old }
+    /// A line of its driver is refused. The count stops at its greatest number.
+    fn count_refused(&mut self)
+        ensures { self.new ≡ with_faulty_line self.old }
     {
-        self.fault = fault;
         self.faulty = self.faulty.saturating_add(1);
     }
 }
 
-// Inlined, these two would have their room on the stack cleared at each line, also where neither is
-// called.
-
-/// Copies the value.
-#[inline(never)]
-fn copy_value(value: &Value, copy: &mut Option<Value>)
-    ensures { copy.new ≡ Some value.now }
-{
-    *copy = Some(value.copied());
+/// A moment in seconds, and how old what a driver reported may be then, in seconds.
+#[derive(Clone, Copy)]
+pub(crate) struct Moment {
+    pub(crate) seconds: u64,
+    pub(crate) max_age: u32,
 }
 
-/// Keeps the value of the tree's `ups.status`.
+/// Keeps the value of the tree's `ups.status`, and notes it where it is another. It is a call of
+/// its own, since inlined its room on the stack would be cleared at each line.
 #[inline(never)]
-fn keep_status(tree: &Tree, kept: &mut Option<Value>)
-    ensures { kept.new ≡ value_of tree.now (codes "ups.status") }
+fn keep_status(u: UpsId, tree: &Tree, kept: &mut Option<Value>, notes: &mut Notes)
+    ensures kept { kept.new ≡ value_of tree.now (codes "ups.status") }
+    ensures noted { notes.new ≡ with_note
+        (status_note u kept.old (value_of tree.now (codes "ups.status"))) notes.old }
 {
     let name = Name::read(b"ups.status").unwrap();
-    *kept = tree
+    let status = tree
         .get(&name)
         .and_then(|variable| Value::read(variable.value()).ok());
+    if status != *kept {
+        let copy = match &status {
+            Some(status) => Some(status.copied()),
+            None => None,
+        };
+        notes.extend(Some(Note::StatusChanged(u, copy)));
+        *kept = status;
+    }
+}
+
+/// Settles the order on which a line of the driver that came to this reports. The answer is whether
+/// the line is refused: so is a report on an order that isn't awaited.
+fn settle(u: UpsId, outcome: LineOutcome, tracking: &mut Tracking) -> bool
+    requires { HasLawfulNumber outcome }
+    ensures answer { result
+        ≡ is_refused (is_unawaited u.place (reported_end outcome) tracking.old) outcome }
+    ensures after { tracking.new ≡ with_end u.place (reported_end outcome) tracking.old }
+{
+    match outcome {
+        LineOutcome::Accepted => false,
+        LineOutcome::Tracked(id, number) => !tracking.settle(u.place as usize, id, number),
+        LineOutcome::Refused(_) => true,
+    }
+}
+
+/// Why a line is refused that came to this, none where it reports on an order.
+fn fault_of(outcome: LineOutcome) -> Option<DriverFault>
+    ensures { result ≡ fault_of outcome }
+{
+    match outcome {
+        LineOutcome::Refused(fault) => Some(fault),
+        _ => None,
+    }
+}
+
+/// What a line leaves of a piece.
+fn unused(piece: &[u8], used: usize) -> &[u8]
+    requires { used ≤ length piece.now }
+    ensures { result.now ≡ drop used piece.now }
+{
+    &piece[used..]
 }
 
 /// So many bytes at the front of the piece, or else what is held.

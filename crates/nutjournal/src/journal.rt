@@ -207,22 +207,27 @@ impl Journal {
         match note {
             Note::Data(u, state) => {
                 let driver = &mut self.drivers[u.place as usize];
-                driver.state = *state;
+                let was = mem::replace(&mut driver.state, *state);
                 let is_awaited = *state == DataState::Awaited;
                 driver.awaited = is_awaited.then_some(server.current_moment());
-                let kind = DATA[*state as usize];
-                self.log(Of::Ups(u.place), kind, name(u), &kind.row().0);
+                // A driver may report all, and only then that it is right: it wasn't stale between.
+                let is_new = was == DataState::Awaited && *state == DataState::Stale;
+                if !is_new || !become_good(server.notes(), *u) {
+                    let kind = DATA[*state as usize];
+                    self.log(Of::Ups(u.place), kind, name(u), &kind.row().0);
+                }
             }
-            Note::StatusChanged(u) => {
-                let status = server.status(*u).unwrap_or(b"");
-                let kind = kind_of_status(status);
-                let status = status.escape_ascii();
+            Note::StatusChanged(u, Some(status)) => {
+                let kind = kind_of_status(status.as_bytes());
+                let status = status.as_bytes().escape_ascii();
                 let line = format_args!("status {status}");
                 self.log(Of::Ups(u.place), kind, name(u), &line);
             }
-            Note::LinesRefused(u, count, fault) => {
+            // The loss of a driver has a line of its own; a status that it takes away has none.
+            Note::StatusChanged(_, None) => {}
+            Note::LineRefused(u, fault) => {
                 let driver = &mut self.drivers[u.place as usize];
-                driver.refused = (driver.refused.0.saturating_add(*count), *fault);
+                driver.refused = (driver.refused.0.saturating_add(1), *fault);
             }
             Note::LoggedIn(u, who) => {
                 let (of, who) = (Of::Client(&who.address), Shown(who));
@@ -275,6 +280,13 @@ impl Journal {
             }
         }
     }
+}
+
+/// Whether the data of the UPS become good by these notes.
+fn become_good(notes: &[Note], u: UpsId) -> bool {
+    let of = u.place;
+    let is_good = |note: &Note| matches!(note, Note::Data(v, DataState::Good) if v.place == of);
+    notes.iter().any(is_good)
 }
 
 /// What is logged of a status: it is an alarm on battery (OB) or with a low battery (LB).

@@ -2,15 +2,14 @@
 ghost use Rattle.std.specs.Prelude.{◌≡◌, ◌≤◌, Some, length, option_copied, take, []};
 ghost use Rattle.std.specs.Option.{option_and_then};
 ghost use Rattle.nutcore.specs.Calls.{Reads, ReadsUps, standing_of};
-ghost use Rattle.nutcore.specs.Notes.{look_at, look_of, status_of, tick_notes};
-ghost use Rattle.nutcore.specs.Promises.{OfUps, with_changes};
+ghost use Rattle.nutcore.specs.Notes.{status_of, tick_notes};
 ghost use Rattle.nutcore.specs.Server.{session, ups_at};
 ghost use Rattle.nutcore.specs.declared.note.TheConstants.{NOTE_LIMIT};
 ghost use Rattle.nutusers.specs.declared.limits.TheConstants.{UPS_LIMIT};
 
 use super::Server;
 use crate::event::{ClientId, Fault};
-use crate::note::{Look, Notes, data_note};
+use crate::note::{Notes, data_note};
 use crate::ups::Ups;
 use nutusers::UpsId;
 
@@ -50,28 +49,6 @@ impl Server {
             ≡ option_and_then status_of (ups_at u.place self.now.state) }
     {
         self.ups_of(u).ok()?.status()
-    }
-
-    /// Looks at the UPS, if it is there, at this moment.
-    pub(super) fn look(&self, u: UpsId, look: &mut Look)
-        ensures { OfUps u self.now.state (λ x. look.new
-            ≡ look_of self.now.state.max_age self.now.state.moment x) }
-    {
-        if let Some(ups) = self.upses.get(u.place as usize) {
-            ups.look(self.max_age, self.moment, look);
-        }
-    }
-
-    /// Notes how the UPS differs from this earlier look.
-    pub(super) fn note_changes(&mut self, u: UpsId, was: &Look)
-        ensures notes { self.new.notes
-            ≡ with_changes u (Some was.now) (look_at u self.old.state) self.old.notes }
-        ensures state { self.new.state ≡ self.old.state }
-        ensures cost { self.new.cost ≡ self.old.cost }
-    {
-        if let Some(ups) = self.upses.get(u.place as usize) {
-            ups.note_changes(u, was, self.max_age, self.moment, &mut self.notes);
-        }
     }
 
     /// What `offered`, `room` and `finished` answer about the client, by one look-up.

@@ -1,22 +1,27 @@
-use Rattle.std.proofs.Common.{rules, codes, subst, sym, ◌∙◌, ap}
-use Rattle.nutdriver.specs.declared.report.Report.{Report}
-use Rattle.nutdriver.specs.declared.report.LineOutcome.{LineOutcome}
-use Rattle.nutdriver.specs.LastLine.{value_of}
-use Rattle.nutdriver.specs.Report.{after_reading}
-use Rattle.nutdriver.specs.Tree.{byte_order}
-use Rattle.nutmap.specs.Entries.{HasRisingKeys}
-use Rattle.nutcore.proofs.ups.Ups.execute.Goals.{in-Ok+then-decides, in-Ok+else-decides, in_default}
+use Rattle.std.proofs.Common.{◌≡◌, ◌∙◌, Option, Some, None, refl, ap, ap₂, cond}
+use Rattle.nutdriver.specs.declared.fault.DriverFault.{DriverFault}
+use Rattle.nutcore.specs.Notes.{fault_of, data_note}
+use Rattle.nutcore.specs.Promises.{front_or, with_note}
+use Rattle.nutcore.specs.Ups.{with_faulty_line}
+use Rattle.nutcore.specs.declared.note.Note.{Note}
+use Rattle.nutcore.specs.declared.note.Note.TheVariants.{LineRefused}
+use Rattle.nutcore.proofs.DriverLoops.{does_line}
+use Rattle.nutcore.proofs.ups.Ups.execute.Goals.{then-settle, else-settle}
 use Rattle.nutcore.proofs.ups.Ups.execute.Goals as goal
 
-pub invariant_of-self-2 : goal.invariant_of-self-2
-invariant_of-self-2 c =
-    let report : Report = record c.self.inside.report { heard = c.args.moment } in
-    elim c.match-line.branch [
-      | in-Ok+then-decides w ↦ search rules
-      | in-Ok+else-decides w ↦
-          let rise = subst (HasRisingKeys byte_order) c.variables.ensures.value c.len.ensures.rising in
-          let left = c.other_lines_leave_the_value.ensures report w.in-Ok.line (codes "ups.status") rise (sym w.decides.ensures ∙ w.if-decides.false) in
-          rw w.self-inside-is (c.self.invariant ∙ sym left ∙ ap (λ (r : Report × LineOutcome). value_of r.0.tree (codes "ups.status")) (ap (after_reading report) (sym w.in-Ok.is) ∙ c.in_ok-outcome.ensures.ok))
-      | in_default w ↦
-          rw w.self-inside-is (c.self.invariant ∙ ap (λ (r : Report × LineOutcome). value_of r.0.tree (codes "ups.status")) (ap (after_reading report) (sym w.in_default.is) ∙ c.in_ok-outcome.ensures.ok))
-    ]
+pub returns-clause-done : goal.returns-clause-done
+returns-clause-done c =
+    let b = c.settle.result in
+    let z = c.apply.new.self in
+    let o = c.in_ok-outcome.outcome in
+    let left : c.if-settle.self ≡ cond b (with_faulty_line z) z = elim c.if-settle.branch [
+      | then-settle w ↦ rw (w.self-is, w.if-settle.true) w.count_refused.ensures
+      | else-settle w ↦ rw (w.self-is, w.if-settle.false) refl
+    ] in
+    let two : c.if-settle.notes ≡ with_note (cond b (Some (LineRefused c.args.u (fault_of o))) None) c.apply.new.notes = elim c.if-settle.branch [
+      | then-settle w ↦ rw (w.notes-is, w.if-settle.true) (w.extend.ensures ∙ ap (λ (f : Option DriverFault). with_note (Some (LineRefused c.args.u f)) c.apply.new.notes) w.fault_of.ensures)
+      | else-settle w ↦ rw (w.notes-is, w.if-settle.false) refl
+    ] in
+    let three = c.extend-2.ensures ∙ ap (λ (n : Option Note). with_note n c.if-settle.notes) (c.data_note.ensures ∙ ap₂ (data_note c.args.u) c.data_state-was.ensures c.data_state.ensures) in
+    does_line c.args.now.max_age c.args.now.seconds c.args.u (front_or c.args.count c.args.piece.now c.args.self.now.unfinished) c.args.self.now c.args.tracking.now c.args.notes.now o z b c.if-settle.self c.settle.new.tracking c.apply.new.notes c.if-settle.notes c.extend-2.new.self
+    c.in_ok-outcome.ensures.done c.settle.ensures.answer c.settle.ensures.after left c.requires.room c.in_ok-outcome.ensures.noted two three
