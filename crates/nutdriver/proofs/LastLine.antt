@@ -1,47 +1,26 @@
 -- The last line on a variable decides it.
-use Rattle.std.proofs.Common.{◌≡◌, ℕ, Bool, true, false, cond, List, [], ◌∷◌, ◌++◌, Option, Some, None, refl, sym, ap, subst, ◌∙◌, append-nil, append_assoc, length, true≢false}
-use Rattle.std.specs.Prelude.{◌≢◌, nat_le, Result, Ok, Err, IfOk, IfSome, if◌then◌else◌, option_map}
+use Rattle.std.proofs.Common.{◌≡◌, ℕ, Bool, true, false, cond, List, [], ◌∷◌, ◌++◌, Option, Some, None, refl, sym, ap, ◌∙◌, length}
+use Rattle.std.specs.Prelude.{nat_le, Result, Ok, Err, IfOk, IfSome, if◌then◌else◌, option_map}
 use Rattle.std.specs.List.{list_any}
-use Rattle.std.specs.Ordering.{is_eq}
 use Rattle.std.specs.Str.{bytes_eq}
-use Rattle.std.specs.BTreeMap.{insert_entry, is_at}
-use Rattle.std.specs.Map.{remove_entry}
-use Rattle.std.specs.declared.cmp.Ordering.{Ordering}
-use Rattle.std.specs.declared.cmp.Ordering.TheVariants.{Less, Equal, Greater}
 use Rattle.std.proofs.lemmas.Bool.{or_parts}
-use Rattle.std.proofs.lemmas.Map.Text.{is_eq-slice_cmp}
 use Rattle.std.proofs.lemmas.Slice.Eq.{bytes_eq-Decides}
-use Rattle.nutmap.specs.Entries.{HasRisingKeys, value_at}
-use Rattle.nutmap.specs.FiniteMap.{ChangesOneKey}
+use Rattle.nutmap.specs.Entries.{HasRisingKeys}
 use Rattle.nutdriver.specs.declared.limits.TheConstants.{VARIABLE_LIMIT, COMMAND_LIMIT, ENUM_LIMIT, RANGE_LIMIT}
 use Rattle.nutdriver.specs.declared.effect.Effect.{Effect}
-use Rattle.nutdriver.specs.declared.effect.Effect.TheVariants.{Nothing, Changed, DumpDone as DumpIsDone, DataOk as DataAreOk, DataStale as DataAreStale, Pong as PongCame, Tracked}
+use Rattle.nutdriver.specs.declared.effect.Effect.TheVariants.{Nothing, Changed}
 use Rattle.nutdriver.specs.declared.fault.DriverFault.{DriverFault}
 use Rattle.nutdriver.specs.declared.fault.DriverFault.TheVariants.{NoSuchItem, Full}
 use Rattle.nutdriver.specs.declared.line.DriverLine.{DriverLine}
-use Rattle.nutdriver.specs.declared.line.DriverLine.TheVariants.{Blank, SetInfo, DelInfo, AddEnum, DelEnum, AddRange, DelRange, SetAux, SetFlags, AddCmd, DelCmd, DumpDone, DataOk, DataStale, Pong, Tracking}
-use Rattle.nutdriver.specs.declared.report.Report.{Report}
+use Rattle.nutdriver.specs.declared.line.DriverLine.TheVariants.{SetInfo, DelInfo, AddEnum, DelEnum, AddRange, DelRange, SetAux, SetFlags, AddCmd, DelCmd}
 use Rattle.nutdriver.specs.Variable.{VariableState, new_variable, has_value, has_range, with_value, add_enum, delete_enum, add_range, delete_range, with_aux, with_flags}
 use Rattle.nutdriver.specs.Tree.{TreeState, byte_order, variable_at, with_variable, without_variable, has_command, with_command, without_command}
-use Rattle.nutdriver.specs.DriverLine.{read_driver_line}
-use Rattle.nutdriver.specs.DriverStep.{driver_step, is_change, put_back, on_variable, if_there, set_info, delete_info}
-use Rattle.nutdriver.specs.Report.{connected_report, after_step, after_reading, after_line, Heard, after_heard}
-use Rattle.nutdriver.specs.Sound.{IsSoundTree, EachLineKeepsTheTreeSound}
-use Rattle.nutdriver.specs.LastLine.{change_of, changes, value_of, decides, NoneDecides, OtherLinesLeaveTheValue, TheLastLineOnAVariableDecidesIt}
+use Rattle.nutdriver.specs.DriverStep.{driver_step, put_back, on_variable, if_there, set_info, delete_info}
+use Rattle.nutdriver.specs.Report.{connected_report, after_heard}
+use Rattle.nutdriver.specs.Sound.{EachLineKeepsTheTreeSound}
+use Rattle.nutdriver.specs.LastLine.{changes, value_of, decides, NoneDecides, OtherLinesLeaveTheValue, TheLastLineOnAVariableDecidesIt}
+use Rattle.nutdriver.proofs.Histories.{ChangeLaws, StepDoes, after_step_holds, changed_key, lines_hold}
 use Rattle.nutdriver.proofs.SoundTrees.{empty_sound}
-
--- nutmap's laws of a change
-pub record ChangeLaws : Type 0 where
-  pub inserted : (map : List (List ℕ × VariableState)) (name : List ℕ) (v : VariableState) → HasRisingKeys byte_order map → ChangesOneKey byte_order map (insert_entry byte_order map name v) name (Some v)
-  pub removed : (map : List (List ℕ × VariableState)) (name : List ℕ) → HasRisingKeys byte_order map → ChangesOneKey byte_order map (remove_entry (is_at (byte_order name)) map) name None
-
-equal_by : (o : Ordering) → is_eq o ≡ true → o ≡ Equal
-equal_by Less h = absurd (cc)
-equal_by Equal h = refl
-equal_by Greater h = absurd (cc)
-
-apart_by : (o : Ordering) → is_eq o ≡ false → o ≢ Equal
-apart_by o h = λ same. true≢false (sym (ap is_eq same) ∙ h)
 
 -- what a line that changes the tree does to the value of a name
 abbrev after_one : List ℕ → Option (List ℕ) → DriverLine → Option (List ℕ)
@@ -70,15 +49,6 @@ none_after name before (line ∷ lines) h =
     let parts = or_parts (decides name line) (list_any (decides name) lines) h in
     ap (λ (o : Option (List ℕ)). after_all name o lines) (none_by name before line parts.0) ∙ none_after name before lines parts.1
 
--- what stands at a name after one key was changed
-changed_key : (old new : List (List ℕ × VariableState)) (this : List ℕ) (after : Option VariableState) → ChangesOneKey byte_order old new this after
-    → (name : List ℕ) → value_at byte_order new name ≡ cond (bytes_eq this name) after (value_at byte_order old name)
-changed_key old new this after one name = by_name (bytes_eq this name) refl
-  where
-    by_name : (b : Bool) → bytes_eq this name ≡ b → value_at byte_order new name ≡ cond b after (value_at byte_order old name)
-    by_name true e = one.here name (equal_by (byte_order this name) (is_eq-slice_cmp this name ∙ e))
-    by_name false e = one.elsewhere name (apart_by (byte_order this name) (is_eq-slice_cmp this name ∙ e))
-
 abbrev value_in : Option VariableState → Option (List ℕ)
 value_in held = option_map (λ v. v.value) held
 
@@ -86,11 +56,13 @@ value_by : (b : Bool) (after held : Option VariableState) → value_in (cond b a
 value_by true after held = refl
 value_by false after held = refl
 
--- what a line does to each name, where it changes the tree, and else it leaves the tree
-abbrev StepGives : (List ℕ → Option (List ℕ) → Option (List ℕ)) → TreeState → Result (TreeState × Effect) DriverFault → Type 0
-StepGives gives tree (Err fault) = Unit {0}
-StepGives gives tree (Ok (after, Changed)) = (name : List ℕ) → value_of after name ≡ gives name (value_of tree name)
-StepGives gives tree (Ok (after, effect)) = after ≡ tree
+-- what a line does to the value of each name
+abbrev Gives : (List ℕ → Option (List ℕ) → Option (List ℕ)) → TreeState → TreeState → Type 0
+Gives gives tree after = (name : List ℕ) → value_of after name ≡ gives name (value_of tree name)
+
+abbrev StepGives : (List ℕ → Option (List ℕ) → Option (List ℕ)) → TreeState
+    → Result (TreeState × Effect) DriverFault → Type 0
+StepGives gives tree step = StepDoes (Gives gives tree) tree step
 
 -- what leaves the value
 abbrev LeavesValue : VariableState → Result (Option VariableState) DriverFault → Type 0
@@ -155,7 +127,6 @@ module _ (laws : ChangeLaws) (tree : TreeState) (rise : HasRisingKeys byte_order
   delete_command_leaves command false = tt
 
   line_gives : (line : DriverLine) → StepGives (λ name before. after_one name before line) tree (driver_step tree line)
-  line_gives Blank = refl
   line_gives (SetInfo this value) = set_info_gives this value (variable_at tree this)
   line_gives (DelInfo this) = delete_info_gives this (variable_at tree this)
   line_gives (AddEnum this value) = on_variable_leaves this (add_enum value) (λ v. if_room v _ (has_value v.enum_values value) (nat_le ENUM_LIMIT (length v.enum_values)) refl)
@@ -166,60 +137,13 @@ module _ (laws : ChangeLaws) (tree : TreeState) (rise : HasRisingKeys byte_order
   line_gives (SetFlags this flags) = on_variable_leaves this (λ variable. Ok (Some (with_flags flags variable))) (λ v. refl)
   line_gives (AddCmd command) = add_command_leaves command (has_command tree command) (nat_le COMMAND_LIMIT (length tree.commands))
   line_gives (DelCmd command) = delete_command_leaves command (has_command tree command)
-  line_gives DumpDone = refl
-  line_gives DataOk = refl
-  line_gives DataStale = refl
-  line_gives Pong = refl
-  line_gives (Tracking id number) = refl
-
-  -- a line leaves the value of a name that it doesn't decide
-  others_left : (report : Report) (line : DriverLine) (name : List ℕ) → decides name line ≡ false → (step : Result (TreeState × Effect) DriverFault) → StepGives (λ name before. after_one name before line) tree step → report.tree ≡ tree
-      → value_of (after_step report step).0.tree name ≡ value_of report.tree name
-  others_left report line name h (Err fault) m e = refl
-  others_left report line name h (Ok (after, Changed)) m e = m name ∙ none_by name (value_of tree name) line h ∙ sym (ap (λ (t : TreeState). value_of t name) e)
-  others_left report line name h (Ok (after, Nothing)) m e = ap (λ (t : TreeState). value_of t name) (m ∙ sym e)
-  others_left report line name h (Ok (after, DumpIsDone)) m e = ap (λ (t : TreeState). value_of t name) (m ∙ sym e)
-  others_left report line name h (Ok (after, DataAreOk)) m e = ap (λ (t : TreeState). value_of t name) (m ∙ sym e)
-  others_left report line name h (Ok (after, DataAreStale)) m e = ap (λ (t : TreeState). value_of t name) (m ∙ sym e)
-  others_left report line name h (Ok (after, PongCame)) m e = ap (λ (t : TreeState). value_of t name) (m ∙ sym e)
-  others_left report line name h (Ok (after, Tracked id number)) m e = ap (λ (t : TreeState). value_of t name) (m ∙ sym e)
+  line_gives _ = refl
 
 pub other_lines_leave : ChangeLaws → OtherLinesLeaveTheValue
-other_lines_leave laws = λ report line name rise h. others_left laws report.tree rise report line name h (driver_step report.tree line) (line_gives laws report.tree rise line) refl
-
--- lines one after another
-module _ (laws : ChangeLaws) (kept : EachLineKeepsTheTreeSound) where
-  abbrev Has : TreeState → List DriverLine → Type 0
-  Has tree done = (name : List ℕ) → value_of tree name ≡ after_all name None done
-
-  as_before : (tree : TreeState) (done : List DriverLine) → Has tree done → Has tree (done ++ [])
-  as_before tree done h = subst (Has tree) (sym (append-nil done)) h
-
-  step_has : (report : Report) (line : DriverLine) (done : List DriverLine) → Has report.tree done → (step : Result (TreeState × Effect) DriverFault) → StepGives (λ name before. after_one name before line) report.tree step
-      → Has (after_step report step).0.tree (done ++ (if is_change step then line ∷ [] else []))
-  unfolding after_all
-  step_has report line done h (Err fault) m = as_before report.tree done h
-  step_has report line done h (Ok (tree, Changed)) m = λ name. m name ∙ ap (λ (o : Option (List ℕ)). after_one name o line) (h name) ∙ sym (all_both name None done (line ∷ []))
-  step_has report line done h (Ok (tree, Nothing)) m = as_before tree done (subst (λ (t : TreeState). Has t done) (sym m) h)
-  step_has report line done h (Ok (tree, DumpIsDone)) m = as_before tree done (subst (λ (t : TreeState). Has t done) (sym m) h)
-  step_has report line done h (Ok (tree, DataAreOk)) m = as_before tree done (subst (λ (t : TreeState). Has t done) (sym m) h)
-  step_has report line done h (Ok (tree, DataAreStale)) m = as_before tree done (subst (λ (t : TreeState). Has t done) (sym m) h)
-  step_has report line done h (Ok (tree, PongCame)) m = as_before tree done (subst (λ (t : TreeState). Has t done) (sym m) h)
-  step_has report line done h (Ok (tree, Tracked id number)) m = as_before tree done (subst (λ (t : TreeState). Has t done) (sym m) h)
-
-  reading_has : (report : Report) (reading : Result DriverLine DriverFault) (done : List DriverLine) → HasRisingKeys byte_order report.tree.variables → Has report.tree done
-      → Has (after_reading report reading).0.tree (done ++ change_of report.tree reading)
-  reading_has report (Ok line) done rise h = step_has report line done h (driver_step report.tree line) (line_gives laws report.tree rise line)
-  reading_has report (Err fault) done rise h = as_before report.tree done h
-
-  lines_have : (report : Report) (lines : List Heard) (done : List DriverLine) → IsSoundTree report.tree → Has report.tree done → Has (after_heard report lines).tree (done ++ changes report lines)
-  lines_have report [] done sound h = as_before report.tree done h
-  lines_have report (x ∷ lines) done sound h =
-      let next = (after_line x.moment report x.line).0 in
-      let change = change_of report.tree (read_driver_line x.line) in
-      let has : Has next.tree (done ++ change) = reading_has (record report { heard = x.moment }) (read_driver_line x.line) done sound.names_rise h in
-      subst (Has (after_heard report (x ∷ lines)).tree) (append_assoc done change (changes next lines))
-      (lines_have next lines (done ++ change) (kept x.moment report x.line sound) has)
+other_lines_leave laws = λ report line name rise h.
+    after_step_holds (λ t. value_of t name ≡ value_of report.tree name) report (driver_step report.tree line)
+    (λ after gives. gives name ∙ none_by name (value_of report.tree name) line h) refl
+    (line_gives laws report.tree rise line)
 
 -- the last line that decides
 pub the_last_line_decides : ChangeLaws → EachLineKeepsTheTreeSound → TheLastLineOnAVariableDecidesIt
@@ -227,7 +151,12 @@ unfolding after_all
 the_last_line_decides laws kept = λ moment lines name.
     let report = connected_report moment in
     let tree : TreeState = (after_heard report lines).tree in
-    let is : value_of tree name ≡ after_all name None (changes report lines) = lines_have laws kept report lines [] empty_sound (λ n. refl) name in
+    let is : value_of tree name ≡ after_all name None (changes report lines) =
+    lines_hold kept (λ t done. (n : List ℕ) → value_of t n ≡ after_all n None done)
+    (λ t line after. Gives (λ n before. after_one n before line) t after) (line_gives laws)
+    (λ t after line done h gives. λ n.
+    gives n ∙ ap (λ o. after_one n o line) (h n) ∙ sym (all_both n None done (line ∷ [])))
+    report lines [] empty_sound (λ n. refl) name in
     let own : bytes_eq name name ≡ true = (bytes_eq-Decides name name).1 refl in
     record {
       given = λ earlier later value e none.

@@ -4,5 +4,7 @@ pub mod LawfulLines
 pub mod SoundTrees
 pub mod LineLemmas
 pub mod ReportedNumbers
+mod Histories
 mod LastLine
+mod AddingOrder
 pub mod PublicLaws

@@ -13,3 +13,4 @@ pub mod Promises
 pub mod Report
 pub mod Sound
 pub mod LastLine
+pub mod Additions

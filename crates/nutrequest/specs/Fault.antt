@@ -1,5 +1,7 @@
 -- The numbers, the statuses and the texts of a client's faults.
 use Rattle.std.specs.Prelude.{ℕ, List, ◌++◌, codes}
+use Rattle.std.specs.declared.io.ErrorKind.{ErrorKind}
+use Rattle.std.specs.declared.io.ErrorKind.TheVariants.{OutOfMemory}
 use Rattle.nutrequest.specs.declared.faults.ClientFault.{ClientFault}
 use Rattle.nutrequest.specs.declared.faults.ClientFault.TheVariants.{Connect, Read, Write, EarlyEnd}
 use Rattle.nutrequest.specs.declared.faults.ClientFault.TheVariants.{ErrWord, BadReply, BadTarget}
@@ -32,3 +34,8 @@ fault_text (ErrWord word) = codes "server answered ERR " ++ word
 fault_text BadReply = codes "bad reply"
 fault_text BadTarget = codes "bad argument"
 fault_text Memory = codes "no memory"
+
+-- What a call that connects met, by the kind of its error.
+abbrev pub fault_of : ErrorKind → ClientFault
+fault_of OutOfMemory = Memory
+fault_of kind = Connect

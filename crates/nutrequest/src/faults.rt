@@ -103,12 +103,12 @@ impl fmt::Display for ClientFault {
 impl Error for ClientFault {}
 
 impl From<io::Error> for ClientFault {
-    ghost use Rattle.std.specs.Prelude.{◌⊎◌};
-    ghost use Rattle.nutrequest.specs.declared.faults.ClientFault.TheVariants.{Connect, Memory};
+    ghost use Rattle.std.specs.IoError.{error_kind};
+    ghost use Rattle.nutrequest.specs.Fault.{fault_of};
 
-    ghost from_gives = { λ _ fault. (fault ≡ Connect) ⊎ (fault ≡ Memory) };
+    ghost from_gives = { λ error fault. fault ≡ fault_of (error_kind error) };
 
-    /// What a call that connects met.
+    /// What a call that connects met: no memory, or no connection.
     fn from(error: io::Error) -> ClientFault {
         match error.kind() {
             ErrorKind::OutOfMemory => ClientFault::Memory,

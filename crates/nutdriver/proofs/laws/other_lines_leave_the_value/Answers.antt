@@ -1,4 +1,5 @@
-use Rattle.nutdriver.proofs.LastLine.{ChangeLaws, other_lines_leave}
+use Rattle.nutdriver.proofs.Histories.{ChangeLaws}
+use Rattle.nutdriver.proofs.LastLine.{other_lines_leave}
 use Rattle.nutdriver.proofs.laws.other_lines_leave_the_value.Goals as goal
 
 pub returns : goal.returns

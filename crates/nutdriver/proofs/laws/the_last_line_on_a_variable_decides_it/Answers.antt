@@ -1,4 +1,5 @@
-use Rattle.nutdriver.proofs.LastLine.{ChangeLaws, the_last_line_decides}
+use Rattle.nutdriver.proofs.Histories.{ChangeLaws}
+use Rattle.nutdriver.proofs.LastLine.{the_last_line_decides}
 use Rattle.nutdriver.proofs.laws.the_last_line_on_a_variable_decides_it.Goals as goal
 
 pub returns : goal.returns
