@@ -198,13 +198,13 @@ def longest_listings():
 
 
 def check_led(rows, narrow):
-    """Lawful words lead to their server, by what is looked up and connected to."""
+    """Lawful words lead to their server, by what is looked up and connected to, and each line is sent at once."""
     for ups, led in rows:
         BENCH.file("led", b"")
         check([Row(("upsc", ups), LISTED, ASKED, PRINTED, narrow=narrow)])
         with open(LED, encoding="utf-8") as file:
             got = file.read().splitlines()
-        assert got == led, f"{ups}: {got}"
+        assert got == [*led, "send without delay"], f"{ups}: {got}"
     return f"{len(rows)} rows"
 
 
@@ -428,7 +428,8 @@ def main():
     BENCH.case("a terminal is sent no control character", check_terminal, SHOWN)
     BENCH.case("clients that are stopped go on", check, [Row(LIST, LISTED, ASKED, PRINTED, ending=PAUSES)])
     silent = list(rows("servers that say nothing, or no more", STAYS))
-    BENCH.case("a server that says no more is waited for 5 s", check_waits, [*silent, silent[0]._replace(ending=PAUSES)])
+    takes_nothing = Row(LIST, b"", b"", fault=WRITE, why=NO_ANSWER, ending=STAYS, narrow={"WRITABLE": "1"})
+    BENCH.case("a server that says no more, or takes nothing, is waited for 5 s", check_waits, [*silent, silent[0]._replace(ending=PAUSES), takes_nothing])
     BENCH.case("a server that takes no connection, too", check_unreached, [LIST, SET, ("upscmd", "-l", "su")])
     BENCH.end()
 

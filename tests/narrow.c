@@ -5,10 +5,12 @@
  * STEP: how many bytes a call of recv gives at most, and one of send or a write to the standard output takes.
  * SEND_ROOM: how many bytes send takes in all. Then it fails.
  * WRITE_ROOM: how many bytes the standard output takes in all. Then it takes none.
- * LEAD_TO: the port of 127.0.0.1 that each connection is led to, and each name is looked up as that address. The names, and
- * the addresses and ports that were asked for, are added to the file that LED names, on a line each.
+ * LEAD_TO: the port of 127.0.0.1 that each connection is led to, and each name is looked up as that address. The names, the
+ * addresses and ports that were asked for, and that lines are sent without delay, are added to the file that LED names, on
+ * a line each.
  * REFUSING: an address that each name has before that one, and that refuses each connection.
  * WATCHED, UNWATCHED: so many sockets are watched for events, and for so many after them that is refused.
+ * WRITABLE: how often poll finds that a socket takes bytes. A connection that begins is found so once.
  */
 #define _GNU_SOURCE
 #include <arpa/inet.h>
@@ -17,6 +19,8 @@
 #include <fcntl.h>
 #include <netdb.h>
 #include <netinet/in.h>
+#include <netinet/tcp.h>
+#include <poll.h>
 #include <stdint.h>
 #include <stdio.h>
 #include <stdlib.h>
@@ -82,6 +86,24 @@ ssize_t write(int file, const void *from, size_t size)
     ssize_t count = part == 0 ? 0 : real(file, from, part);
     written += count > 0 ? (size_t)count : 0;
     return count;
+}
+
+int poll(struct pollfd *asked, nfds_t count, int wait)
+{
+    static size_t found;
+    int (*real)(struct pollfd *, nfds_t, int) = dlsym(RTLD_NEXT, "poll");
+    for (nfds_t i = 0; i < count; i++)
+        if (asked[i].events & POLLOUT && found++ >= number_of("WRITABLE", SIZE_MAX))
+            asked[i].events &= ~POLLOUT;
+    return real(asked, count, wait);
+}
+
+int setsockopt(int wire, int level, int name, const void *value, socklen_t size)
+{
+    int (*real)(int, int, int, const void *, socklen_t) = dlsym(RTLD_NEXT, "setsockopt");
+    if (level == IPPROTO_TCP && name == TCP_NODELAY && size == sizeof(int) && *(const int *)value)
+        report("send", "without delay", "");
+    return real(wire, level, name, value, size);
 }
 
 int epoll_ctl(int set, int what, int file, struct epoll_event *event)

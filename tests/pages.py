@@ -32,7 +32,7 @@ def text_of(path):
 JOURNAL = "crates/nutjournal/src/journal.rt"
 # The texts of each source, and the form in which a manual has them.
 MESSAGES = [
-    ("crates/upsd/src/ending.rt", r'#\[error\("(.*)"\)\]', r"\1"),
+    ("crates/upsd/src/ending.rt", r'#\[error\("(.*?)"', r"\1"),
     ("crates/nutloop/src/fault.rt", r'#\[error\("(.*)"\)\]', r"\1"),
     ("crates/upsd/src/warnings.rt", r'warn_if\(.*, &"(.*)"\);', r"warning: PATH: \1"),
     ("crates/upsd/src/warnings.rt", r'format_args!\("([a-z].*)"\);', r"warning: PATH: \1"),
@@ -48,7 +48,7 @@ MESSAGES = [
     (JOURNAL, r'format_args!\("\{who\} (ordered) \{command\}(:.*)"\)', r"su: mon@192.0.2.1 \1 FSD\2"),
     (JOURNAL, r'format_args!\("\{who\} (was .*) \{command\}.*"\);', r"su: mon@192.0.2.1 \1 COMMAND: WORD"),
 ]
-FORMS = {"0": "PATH", "1": "LINE", "2": "N", "count": "N", "error": "ERROR", "status": "STATUS", "more": "N KIND, ..", "state": "DATA", "address": "192.0.2.1"}
+FORMS = {"0": "PATH", "1": "LINE", "number": "N", "count": "N", "error": "ERROR", "status": "STATUS", "more": "N KIND, ..", "state": "DATA", "address": "192.0.2.1"}
 FAULTS = [("crates/nutrequest/src/faults.rt", r'ClientFault::.* => push\(line, b"(.*)"\),', r"\1")]
 
 

@@ -81,7 +81,7 @@ def a_record_replays_to_the_same_bytes():
     # A file that exists is never written to, and the server serves.
     with recorded("session", TWO) as (server, _, good):
         assert good.ask(GET).startswith(b"VAR")
-        warning = f"upsd: warning: {record}: cannot create, and nothing is recorded: File exists (os error 17)\n"
+        warning = f"upsd: warning: {record}: cannot create, and nothing is recorded: File exists\n"
         assert server.journal().startswith(warning), server.journal()
     assert content("session").split(b"\n") == lines
     return f"{len(lines)} lines"

@@ -43,7 +43,7 @@ def script_case(_, parts, files):
     if "output" in parts:
         BENCH.prints(script, written(re.sub(r"(^|\n)\n\Z", r"\1", parts["output"])), **files)
     elif "fault" in parts:
-        BENCH.faults(script, f"upsd: {BENCH.folder.name}/{parts['fault'].strip()}\n".encode(), **files)
+        BENCH.faults(script, lines(f"upsd: {it}" for it in f"{BENCH.folder.name}/{parts['fault']}".strip().split("\n")), **files)
     else:
         BENCH.agrees(script, **files)
 
@@ -78,25 +78,24 @@ ENDS = [
     ("--ups two.conf --users monitors --vars texts login", 0, sent("client 1", b"OK\nOK\nOK\n" + DESCRIBED) + TWO_DRIVERS, b""),
     ("login --vars=texts --ups=two.conf", 0, sent("client 1", b"OK\nOK\nERR ACCESS-DENIED\n" + DESCRIBED) + TWO_DRIVERS, b""),
     ("login", 0, sent("client 1", b"OK\nOK\nERR ACCESS-DENIED\nERR UNKNOWN-UPS\n") + NO_DRIVER, b""),
-    ("--vars absent --ups key.conf login", 1, b"", b"upsd: key.conf:4: cause 5"),
-    ("bad --vars twice --ups two.conf", 1, b"", b"upsd: twice:2: cause 4"),
-    ("--ups two.conf --vars texts absent", 1, b"", b"upsd: absent: cannot read"),
-    ("--ups . login", 1, b"", b"upsd: .: cannot read"),
-    ("--ups two.conf ./bad", 1, b"", b"upsd: ./bad:2: bad event"),
+    ("--vars absent --ups key.conf login", 1, b"", b"upsd: key.conf:4: cause 5\nupsd: cause 5: unknown key\n"),
+    ("bad --vars twice --ups two.conf", 1, b"", b"upsd: twice:2: cause 4\nupsd: cause 4: duplicate\n"),
+    ("--ups two.conf --vars texts absent", 1, b"", b"upsd: absent: cannot read\nupsd: absent: No such file or directory\n"),
+    ("--ups . login", 1, b"", b"upsd: .: cannot read\nupsd: .: Is a directory\n"),
+    ("--ups two.conf ./bad", 1, b"", b"upsd: ./bad:2: bad event\n"),
 ]  # fmt: skip
 WRONG_WORDS = ["", "replay --ups two.conf", "replay --maxage 15 login", "replay login --ups", "replay --ups two.conf --ups two.conf login",
                "replay login login", "play login"]  # fmt: skip
 HELP = {
     "--help": ["serve", "replay"],
-    "serve --help": ["--ups <F>", "--users <F>", "--vars <F>", "--ids <F>", "--listen <A:P>", "127.0.0.1:3493", "--maxage <N>", "--record <F>", "--record-limit <N>", "cause N:", "1 malformed line,", "6 bad value"],
+    "serve --help": ["--ups <F>", "--users <F>", "--vars <F>", "--ids <F>", "--listen <A:P>", "127.0.0.1:3493", "--maxage <N>", "--record <F>", "--record-limit <N>"],
     "replay --help": ["<SCRIPT>", "--ups <F>", "--users <F>", "--vars <F>"],
 }  # fmt: skip
 
 
 def ends_so(words, *want):
-    """What the system says of a fault may follow on a line of its own."""
-    status, printed, faults = BENCH.ends("replay", *words.split(" "))
-    assert (status, printed, faults.partition(b"\n")[0]) == want, (status, printed, faults)
+    ended = BENCH.ends("replay", *words.split(" "))
+    assert ended == want, ended
 
 
 def other_words():

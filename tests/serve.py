@@ -41,8 +41,8 @@ ADMIN = b'USERNAME admin\nPASSWORD "s3 cret"\n'
 MON = b"USERNAME mon\nPASSWORD pw\n"
 GET, STATUS = b"GET VAR su ups.status\n", b'VAR su ups.status "OL"\n'
 AWAY = b"ERR DRIVER-NOT-CONNECTED\n"
-NO_FILE = "cannot connect: No such file or directory (os error 2)\n"
-REFUSED = "cannot connect: Connection refused (os error 111)\n"
+NO_FILE = "cannot connect: No such file or directory\n"
+REFUSED = "cannot connect: Connection refused\n"
 NEWS = ["driver connected", "status OL", "data good"]
 COME = "".join(f"upsd: su: {line}\n" for line in NEWS)
 MANY = 4096
@@ -85,14 +85,14 @@ def words_and_files_are_reported_as_faults():
         assert (status, out, faults[:7]) == (2, b"", b"error: "), words
     assert BENCH.ends("serve", "--ups", ups)[0] == 2
     absent = path("absent")
-    missing = f"{absent}: cannot read\nupsd: {absent}: No such file or directory (os error 2)"
+    missing = f"{absent}: cannot read\nupsd: {absent}: No such file or directory"
     # The first fault is reported, in the order of the words, the list, the users, the descriptions, the ids, the address.
     for words, fault in [
-            (["--ups", bad, "--users", absent], f"{bad}:1: cause 1"),
-            (["--ups", ups, "--users", FOLDER], f"{FOLDER}: cannot read\nupsd: {FOLDER}: Is a directory (os error 21)"),
-            (["--ups", ups, "--users", users, "--vars", bad], f"{bad}:1: cause 1"),
+            (["--ups", bad, "--users", absent], f"{bad}:1: cause 1\nupsd: cause 1: malformed line"),
+            (["--ups", ups, "--users", FOLDER], f"{FOLDER}: cannot read\nupsd: {FOLDER}: Is a directory"),
+            (["--ups", ups, "--users", users, "--vars", bad], f"{bad}:1: cause 1\nupsd: cause 1: malformed line"),
             (files + ["--ids", absent, "--listen", "192.0.2.1:1"], missing),
-            (files + ["--listen", "192.0.2.1:1"], "cannot listen\nupsd: 192.0.2.1:1: Cannot assign requested address (os error 99)")]:
+            (files + ["--listen", "192.0.2.1:1"], "cannot listen\nupsd: 192.0.2.1:1: Cannot assign requested address")]:
         assert BENCH.ends("serve", *words) == (1, b"", f"upsd: {fault}\n".encode()), words
     ended = ends_in_full(UPSD, "serve", *files, "--listen", "127.0.0.1:0")
     assert ended == (1, b"upsd: write failed\n"), ended
@@ -127,7 +127,7 @@ def dangers_of_the_files_are_warned_of():
     # Of a file that is refused only the cause is reported.
     refused = file("refused", dangerous + "[d]\n")
     ended = BENCH.ends("serve", "--ups", path("list"), "--users", refused)
-    assert ended == (1, b"", f"upsd: {refused}:12: cause 4\n".encode())
+    assert ended == (1, b"", f"upsd: {refused}:12: cause 4\nupsd: cause 4: duplicate\n".encode())
 
 
 def what_the_files_lack_is_warned_of():
@@ -212,7 +212,10 @@ def a_standard_error_that_nobody_reads_stops_nothing():
                     assert client.ask(b"LOGIN su\n" * 8) == refusal * 8
                     slowest, asked = max(slowest, worst_wait(good, 1)), asked + 8
                 time.sleep(1)
+            begin = time.monotonic()
             lines = read_to_end_of_drops(reading)
+            # A pipe takes all that waits at once, a terminal some of it.
+            assert os.isatty(reading) or time.monotonic() - begin < 3, "the lines lag"
             refused, dropped = sum("refused LOGIN" in line for line in lines), int(lines[-1].split()[1])
             assert "".join(line + "\n" for line in lines[:3]) == COME, lines[:3]
             assert 0 < dropped and asked - 400 <= refused + dropped <= asked + 400, (asked, refused, dropped)
@@ -327,6 +330,25 @@ def a_login_of_one_piece_is_logged_and_its_end():
         logs(server, *["mon@127.0.0.1 logged in", "mon@127.0.0.1 logged out"] * 3)
 
 
+def each_ups_is_logged_with_its_own_status():
+    """Whatever another one has, and of many lines in a second the last one. The longest is logged whole."""
+    drivers = [Driver(path(f"{name}.sock")) for name in "ab"]
+    with begun(file("both.conf", "".join(f"[{name}]\nsocket = {path(name)}.sock\n" for name in "ab"))) as server:
+        for driver in drivers:
+            driver.accept(TWO)
+        assert comes(lambda: server.journal().count(": data good\n") == 2), server.journal()
+        for name, driver in zip("ba", drivers[::-1]):
+            driver.send(b'SETINFO ups.status "%s"\n' % (b"\xff" * 512) + b'SETINFO ups.status "OL %s"\n' % name.encode())
+            line = f"upsd: {name}: status "
+            assert comes(lambda: server.journal().endswith(line + "\\xff" * 512 + f"\n{line}OL {name}\n")), server.journal()  # noqa: B023
+        for name, driver in zip("ba", drivers[::-1]):
+            driver.send(b'SETINFO ups.status "OL"\nSETINFO ups.status "OB"\n' * 20 + b'SETINFO ups.status "OL %s"\n' % name.encode())
+            ending = f"; now data good, status OL {name}\n"
+            assert comes(lambda: re.search(f"^upsd: {name}: more lines: .*{ending}", server.journal(), re.M)), server.journal()  # noqa: B023
+    for driver in drivers:
+        driver.close()
+
+
 def refused_lines_of_a_driver_are_logged_with_their_number():
     with served() as (server, driver, good):
         driver.send(b'HELLO s3cret\nUNKNOWN x\nNOPE\nADDRANGE battery.charge 1 s3cret\n')
@@ -336,6 +358,13 @@ def refused_lines_of_a_driver_are_logged_with_their_number():
         time.sleep(1.2)
         logs(server)
         assert good.ask(GET) == STATUS
+        # Those of two pieces are added up. A second may begin between them.
+        for _ in range(3):
+            for piece in b"NOPE\n", b"SETINFO\nADDRANGE battery.charge 1 2x\n":
+                driver.send(piece)
+                time.sleep(0.05)
+            time.sleep(1.2)
+        assert "refused: 3, the last one: bad number\n" in server.journal(), server.journal()
 
 
 def drivers_are_connected_to_before_it_says_that_it_listens():
@@ -443,8 +472,8 @@ def what_is_undone_in_the_same_write_is_logged():
 
 
 def a_driver_that_never_reports_all_is_logged_as_stale():
-    driver = Driver(path("slow.sock"))
-    with begun(file("slow.conf", f"[su]\nsocket = {driver.path}\n"), "--users", path("users"), "--maxage", "3") as server:
+    driver = Driver(path("never.sock"))
+    with begun(file("never.conf", f"[su]\nsocket = {driver.path}\n"), "--users", path("users"), "--maxage", "3") as server:
         driver.accept()
         driver.send(b'SETINFO ups.status "OL"\n')
         wanted = "upsd: su: driver connected\nupsd: su: status OL\nupsd: su: data stale\n"
@@ -482,7 +511,9 @@ def each_line_has_its_priority_where_it_is_asked_for():
         assert comes(lambda: server.journal().splitlines()[:len(lines)] == lines), server.journal()
 
 
-COMINGS = []
+COMINGS, GREATER_AGE = [], 20
+BEGAN = time.monotonic()
+STALE = []  # when the journal said so, of a driver that never reports all
 
 
 def come_and_go(driver):
@@ -491,15 +522,23 @@ def come_and_go(driver):
             COMINGS.append(driver.accept(TWO))
             time.sleep(0.2)
             driver.lose()
+            if not STALE and "upsd: slow: data stale\n" in RESTLESS.journal():
+                STALE.append(time.monotonic() - BEGAN)
 
 
 def a_driver_that_comes_and_goes_is_logged_once_a_minute():
-    """It does so from the first case on."""
+    """It does so from the first case on, and in each minute is logged at first. Beside it is one that never reports all."""
     wanted = [f"upsd: su: {line}" for line in [*NEWS, "driver lost"] * 2 + NEWS]
+
+    def lines():
+        return [line for line in RESTLESS.journal().splitlines() if line.startswith("upsd: su: ")]
+
     assert comes(lambda: "more lines" in RESTLESS.journal(), 62), RESTLESS.journal()
-    came, lines = len(COMINGS), RESTLESS.journal().splitlines()
-    assert lines[:11] == wanted and lines[11].startswith("upsd: su: more lines: ") and "; now d" in lines[11], lines
-    assert all(came - 2 <= sum(parts_of(RESTLESS, line, line)) <= came for line in (*NEWS[::2], "driver lost")), (came, lines)
+    came, logged = len(COMINGS), lines()
+    assert logged[:11] == wanted and logged[11].startswith("upsd: su: more lines: ") and "; now d" in logged[11], logged
+    assert all(came - 2 <= sum(parts_of(RESTLESS, line, line)) <= came for line in (*NEWS[::2], "driver lost")), (came, logged)
+    assert comes(lambda: lines()[12:].count("upsd: su: driver lost") == 2), lines()
+    assert comes(lambda: STALE, 30) and GREATER_AGE <= STALE[0] <= GREATER_AGE + 5, STALE
     RESTLESS.close()
 
 
@@ -850,7 +889,7 @@ def standard_streams_that_are_closed_are_no_sockets():
 def it_starts_again_at_its_port_and_at_none_that_is_taken():
     with served() as (server, driver, good):
         words = ["--ups", path("su.conf"), "--users", path("users"), "--listen", f"127.0.0.1:{server.port}"]
-        fault = f"upsd: cannot listen\nupsd: {words[-1]}: Address already in use (os error 98)\n"
+        fault = f"upsd: cannot listen\nupsd: {words[-1]}: Address already in use\n"
         assert BENCH.ends("serve", *words) == (1, b"", fault.encode())
         server.close()
         driver.lose()
@@ -861,7 +900,8 @@ def it_starts_again_at_its_port_and_at_none_that_is_taken():
 
 
 file("users", USERS)
-RESTLESS_DRIVER = Driver(path("restless.sock"))
-RESTLESS = serving.Server(UPSD, file("restless.conf", f"[su]\nsocket = {RESTLESS_DRIVER.path}\n"), "--users", path("users"))
+RESTLESS_DRIVER, SLOW_DRIVER = Driver(path("restless.sock")), Driver(path("slow.sock"))
+RESTLESS = serving.Server(UPSD, file("restless.conf", f"[slow]\nsocket = {SLOW_DRIVER.path}\n[su]\nsocket = {RESTLESS_DRIVER.path}\n"),
+                          "--users", path("users"), "--maxage", str(GREATER_AGE))  # fmt: skip
 threading.Thread(target=come_and_go, args=(RESTLESS_DRIVER,), daemon=True).start()
 BENCH.run(globals(), *sys.argv[1:])

@@ -4,6 +4,7 @@
 #![tactic(auto)]
 
 mod ids;
+mod kept;
 mod one_process;
 mod rows;
 mod run;
@@ -122,7 +123,8 @@ fn print_answer(
 /// The turn's fault, and whether the server and its peers went on as if nothing had failed.
 fn print_fault(rt: &HostRuntime, ran: &Ran, as_ever: &Ran) -> Result<()> {
     let failed = ran.sockets.failures();
-    let same = other_calls(rt.alloc(), &ran.sockets)? == other_calls(rt.alloc(), &as_ever.sockets)?;
+    let same = other_calls(rt.alloc(), &ran.sockets)? == other_calls(rt.alloc(), &as_ever.sockets)?
+        && ran.record.text() == as_ever.record.text();
     let number = ran.faults.first().map_or(0, |fault| fault.number());
     let same = yes(same && ran.faults.len() == 1);
     println!(rt; "{failed} failed call, fault {number}, all other turns as ever: {same}")?;

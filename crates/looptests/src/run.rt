@@ -1,4 +1,5 @@
 //! Runs, in each of which at most one call fails.
+use crate::kept::Kept;
 use crate::rows::{Reply, Row, peer_of};
 use crate::scripted::{Act, Scripted};
 use anyhow::{Error, Result};
@@ -28,6 +29,7 @@ pub struct Failing {
 pub struct Ran {
     pub server: Server,
     pub sockets: Scripted,
+    pub record: Kept,
     /// The faults of its turns.
     pub faults: Vec<LoopFault>,
     /// Whose connection was shut last in the turn in which a call failed.
@@ -41,6 +43,7 @@ pub fn run(alloc: Global, rows: &[Row], failing: Option<Failing>) -> Result<Ran>
     let mut ran = Ran {
         server: server_of(alloc)?,
         sockets: Scripted::new(alloc, acts),
+        record: Kept::new(alloc),
         faults: Vec::new(alloc),
         shut_behind: None,
     };
@@ -53,7 +56,7 @@ pub fn run(alloc: Global, rows: &[Row], failing: Option<Failing>) -> Result<Ran>
 impl Ran {
     fn turn(&mut self) -> Result<()> {
         let failures = self.sockets.failures();
-        if let Err(fault) = turn(&mut self.server, &mut self.sockets) {
+        if let Err(fault) = turn(&mut self.server, &mut self.sockets, &mut self.record) {
             self.faults.push(fault)?;
         }
         if self.sockets.failures() > failures {

@@ -1,10 +1,10 @@
 //! Sockets in memory: they answer from a script, and keep every call that was answered.
-ghost use Rattle.std.specs.Prelude.{◌≡◌, ◌∷◌, []};
+ghost use Rattle.std.specs.Prelude.{◌≡◌, ◌∷◌, [], None};
 ghost use Rattle.std.specs.Option.{option_map};
 ghost use Rattle.nutio.specs.Ends.{counted};
-ghost use Rattle.nutloop.specs.Sockets.{Grows, nothing_reported};
+ghost use Rattle.nutloop.specs.Sockets.{Follows};
 
-use nutcore::{Bytes, ClientId, Event, Peer, Server};
+use nutcore::{Bytes, ClientId, Peer, Server, Standing};
 use nutloop::{Broken, Call, Got, Ready, Sockets};
 use nutwords::Address;
 use std::alloc::Global;
@@ -64,10 +64,8 @@ impl Scripted {
     }
 
     fn keep(&mut self, call: Call)
-        ensures reported { Grows
-            (record nothing_reported { answered = option_map (λ calls. calls.items) self.old.calls })
-            (record nothing_reported { answered = option_map (λ calls. calls.items) self.new.calls })
-            (call ∷ []) }
+        ensures kept { Follows (option_map (λ calls. calls.items) self.old.calls) (call ∷ [])
+            (option_map (λ calls. calls.items) self.new.calls) }
         ensures count { self.new.failures ≡ self.old.failures }
     {
         if let Some(calls) = &mut self.calls {
@@ -95,9 +93,11 @@ impl Scripted {
 }
 
 impl Sockets for Scripted {
-    ghost calls = { λ s. record nothing_reported { answered = option_map (λ calls. calls.items) s.calls } };
-
-    ghost failures = { λ s. s.failures };
+    ghost told = { λ s. record {
+      calls = option_map (λ calls. calls.items) s.calls;
+      failures = s.failures;
+      passing = None;
+    } };
 
     fn known(&mut self, _server: &Server) -> Option<Ready> {
         None
@@ -170,19 +170,5 @@ impl Sockets for Scripted {
         self.keep(Call::Shut(p));
     }
 
-    fn happens(&mut self, event: Event) {
-        self.keep(Call::Happens(event));
-    }
-
-    fn comes(&mut self, from: Peer, bytes: &[u8]) {
-        let Ok(bytes) = Vec::from_slice(self.alloc, bytes) else {
-            self.calls = None;
-            return;
-        };
-        let bytes = Bytes::new(bytes);
-        self.keep(Call::Happens(match from {
-            Peer::Client(c) => Event::Feed(c, bytes),
-            Peer::Driver(u) => Event::DriverBytes(u, bytes),
-        }));
-    }
+    fn had_turn(&mut self, _c: ClientId, _standing: Standing) {}
 }

@@ -63,9 +63,7 @@ impl<P: Peers> View<'_, P> {
         if !ups.state.report.connected {
             return Err(ErrWord::DriverNotConnected);
         }
-        let report = ups.state.report;
-        let age = self.moment.saturating_sub(report.heard);
-        if !report.dumped || !report.ok || age > u64::from(self.max_age) {
+        if ups.state.report.is_stale(self.moment, self.max_age) {
             return Err(ErrWord::DataStale);
         }
         Ok(ups)

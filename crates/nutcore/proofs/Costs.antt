@@ -56,24 +56,30 @@ unfolding taken_in_event
 took_some s c n may le =
     ap length (cond-true _ _ _ may ∙ cond-true _ _ _ (eq-eqb c c refl)) ∙ omega (arith, le, length-take n (owed_of (session c s)), length-take QUEUE_LIMIT (owed_of (session c s)))
 
--- an event that is refused at once
-nothing_costs : (s s' : ServerState) (c : ℕ) (e : Event) → s' ≡ s → length (taken_in_event c s' e) ≡ 0 → no_cost ≡ client_cost c s e s'
-nothing_costs s s' c e same none = cc (same_costs (offered (session c s')), none, same)
+-- an event by which nothing is placed
+nothing_costs : (s : ServerState) (c : ℕ) (e : Event) → length (taken_in_event c s e) ≡ 0
+    → no_cost ≡ client_cost c s e s
+nothing_costs s c e none = cc (same_costs (offered (session c s)), none)
 
-pub refused_feed_costs : (s s' : ServerState) (c : ℕ) (piece : List ℕ) → s' ≡ s → no_cost ≡ client_cost c s (Feed c piece) s'
-refused_feed_costs s s' c piece same = nothing_costs s s' c (Feed c piece) same (fed_none s' c piece)
+pub fed_nothing_costs : (s : ServerState) (c : ℕ) (piece : List ℕ) → no_cost ≡ client_cost c s (Feed c piece) s
+fed_nothing_costs s c piece = nothing_costs s c (Feed c piece) (fed_none s c piece)
 
-pub refused_take_costs : (s s' : ServerState) (c n : ℕ) → s' ≡ s → may_take (session c s') n ≡ false → no_cost ≡ client_cost c s (Took c n) s'
-refused_take_costs s s' c n same may = nothing_costs s s' c (Took c n) same (took_none s' c n may)
+pub took_nothing_costs : (s : ServerState) (c n : ℕ) → may_take (session c s) n ≡ false
+    → no_cost ≡ client_cost c s (Took c n) s
+took_nothing_costs s c n may = nothing_costs s c (Took c n) (took_none s c n may)
 
--- one that isn't
-event_costs : (s s' t : ServerState) (c n kept : ℕ) (e : Event) → s' ≡ s → length (taken_in_event c s' e) ≡ n → n ≤ length (offered (session c s')) → kept ≡ length (offered (session c s')) - n → kept ≤ length (offered (session c t)) →
-    cost_beyond kept (offered (session c t)) ≡ client_cost c s e t
-event_costs s s' t c n kept e same taken le left within = cc (cost_is (offered (session c s')) (offered (session c t)) n kept le left within, taken, same)
+-- one by which something is
+pub feed_costs : (s t : ServerState) (c kept : ℕ) (piece : List ℕ) → kept ≡ length (offered (session c s))
+    → kept ≤ length (offered (session c t))
+    → cost_beyond kept (offered (session c t)) ≡ client_cost c s (Feed c piece) t
+feed_costs s t c kept piece left within = cc (
+  cost_is (offered (session c s)) (offered (session c t)) 0 kept (omega arith) (left ∙ omega arith) within,
+  fed_none
+      s c piece,
+)
 
-pub feed_costs : (s s' t : ServerState) (c kept : ℕ) (piece : List ℕ) → s' ≡ s → kept ≡ length (offered (session c s')) → kept ≤ length (offered (session c t)) → cost_beyond kept (offered (session c t)) ≡ client_cost c s (Feed c piece) t
-feed_costs s s' t c kept piece same left within = event_costs s s' t c 0 kept (Feed c piece) same (fed_none s' c piece) (omega arith) (left ∙ omega arith) within
-
-pub take_costs : (s s' t : ServerState) (c n kept : ℕ) → s' ≡ s → may_take (session c s') n ≡ true → n ≤ length (offered (session c s')) → kept ≡ length (offered (session c s')) - n → kept ≤ length (offered (session c t)) →
-    cost_beyond kept (offered (session c t)) ≡ client_cost c s (Took c n) t
-take_costs s s' t c n kept same may le left within = event_costs s s' t c n kept (Took c n) same (took_some s' c n may le) le left within
+pub take_costs : (s t : ServerState) (c n kept : ℕ) → may_take (session c s) n ≡ true
+    → n ≤ length (offered (session c s)) → kept ≡ length (offered (session c s)) - n
+    → kept ≤ length (offered (session c t)) → cost_beyond kept (offered (session c t)) ≡ client_cost c s (Took c n) t
+take_costs s t c n kept may le left within = cc
+    (cost_is (offered (session c s)) (offered (session c t)) n kept le left within, took_some s c n may le)

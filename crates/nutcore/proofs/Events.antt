@@ -57,7 +57,7 @@ pub record IsApart (e : Event) : Type 0 where
   pub sessions : (s : ServerState) (m : Option ℕ) → (after_by s e m).sessions ≡ s.sessions
   pub next_id : (s : ServerState) (m : Option ℕ) → (after_by s e m).next_id ≡ s.next_id
 
-silent : (e : Event) → IsPlain e → IsSilent e
+pub silent : (e : Event) → IsPlain e → IsSilent e
 unfolding executions_by given_by taken_in_event asked_in_event
 silent (Feed c piece) plain = absurd plain
 silent (Took c n) plain = absurd plain
@@ -123,7 +123,7 @@ abbrev pub is_quiet : Outcome → Bool
 is_quiet (Refused fault) = is_harmless fault
 is_quiet _ = false
 
-not_memory : (fault : Fault) → is_harmless fault ≡ true → refused_after (Refused fault) ≡ None
+pub not_memory : (fault : Fault) → is_harmless fault ≡ true → refused_after (Refused fault) ≡ None
 not_memory fault h = grind arith
 
 -- what is taken in, or stopped at a line that is too long, is none of these refusals

@@ -17,7 +17,7 @@ use Rattle.nutcore.proofs.Events.{is_quiet, may_not, of_event, of_parts, any_dri
 use Rattle.nutcore.proofs.Changed.{by_change}
 use Rattle.nutcore.specs.Step.{changed_both}
 use Rattle.nutcore.proofs.Changes.{of_upses}
-use Rattle.nutcore.proofs.Costs.{refused_feed_costs, refused_take_costs}
+use Rattle.nutcore.proofs.Costs.{fed_nothing_costs, took_nothing_costs}
 use Rattle.nutcore.proofs.Found.{find_without_other}
 use Rattle.nutcore.proofs.Kept.{IsPumped, by_lines, by_feed, by_take, of_ends}
 use Rattle.nutcore.proofs.Progress.{Presence}
@@ -122,11 +122,13 @@ refused_so old new e fault step h = grind arith
 pub refused_alone : ARefusedEventChangesNothing
 refused_alone old new e fault step h = step.leaves ∙ sym (refused old e fault (refused_so old new e fault step h) h).leaves
 
-free : (s : ServerState) (e : Event) → is_quiet (outcome_of s e) ≡ true → no_cost ≡ cost_of s e s
+pub free : (s : ServerState) (e : Event) → is_quiet (outcome_of s e) ≡ true → no_cost ≡ cost_of s e s
 unfolding outcome_of
 free s e =
-    of_event (λ e. is_quiet (outcome_of s e) ≡ true → no_cost ≡ cost_of s e s) (λ e silent h. sym (silent.costs s s)) (λ c piece h. refused_feed_costs s s c piece refl)
-    (λ c n h. refused_take_costs s s c n refl (may_not (session c s) n (is_overlong (after_all_lines (without_output s c n) c) c) h)) e
+    of_event (λ e. is_quiet (outcome_of s e) ≡ true → no_cost ≡ cost_of s e s) (λ e silent h. sym (silent.costs s s))
+    (λ c piece h. fed_nothing_costs s c piece)
+    (λ c n h. took_nothing_costs s c n
+    (may_not (session c s) n (is_overlong (after_all_lines (without_output s c n) c) c) h)) e
 
 pub refused_free : ARefusedEventCostsNothing
 refused_free old new e fault step h =

@@ -57,3 +57,4 @@ mod Addresses
 mod NotedRuns
 mod AnswersApart
 mod Costs
+mod OneEvent

@@ -13,17 +13,18 @@ use Rattle.nutcore.specs.declared.note.DataState.TheVariants.{Lost}
 use Rattle.nutcore.specs.declared.note.Note.{Note}
 use Rattle.nutcore.specs.declared.note.Note.TheVariants.{Data, StatusChanged}
 use Rattle.nutcore.specs.declared.note.TheConstants.{NOTE_LIMIT}
-use Rattle.nutcore.specs.declared.event.Event.TheVariants.{Feed, Took}
+use Rattle.nutcore.specs.declared.event.Event.TheVariants.{Feed, Took, Close}
 use Rattle.nutcore.specs.Ups.{UpsState}
 use Rattle.nutcore.specs.Step.{with_input, without_output, may_take, refused_after}
 use Rattle.nutcore.specs.Pump.{next_line, next_line_for, after_line, after_lines, pump_stops, held_of, holds_overlong, is_overlong}
 use Rattle.nutcore.specs.History.{Execution, of_notice, next_execution, lines_executed, notice, pump_executions, executions_until, executions_by}
-use Rattle.nutcore.specs.Notes.{note_of, notes_of_lines, logout_of, status_of, status_note, loss_notes, tick_note, tick_notes, IsNoted}
-use Rattle.nutcore.specs.Cost.{RunningServer}
+use Rattle.nutcore.specs.Notes.{note_of, notes_of_lines, logout_of, status_of, status_note, loss_notes, tick_note}
+use Rattle.nutcore.specs.Notes.{tick_notes, notes_of}
 use Rattle.nutcore.specs.declared.event.Outcome.{Outcome}
+use Rattle.nutcore.specs.declared.event.Outcome.TheVariants.{Done}
 use Rattle.nutcore.specs.Promises.{Replies, note_in_reply, with_note, next_note, with_next}
 use Rattle.nutcore.proofs.Loops.{none_of, stopped_line, all_lines_are}
-use Rattle.nutcore.proofs.EventSteps.{input_absent}
+use Rattle.nutcore.proofs.Changed.{input_absent}
 
 -- the lines that are executed, and those after them
 executed-add : (j k : ℕ) (s : ServerState) (c : ℕ) → lines_executed (j + k) s c ≡ lines_executed j s c ++ lines_executed k (after_lines j s c) c
@@ -106,32 +107,34 @@ pub noted_reply : (s : ServerState) (c : ℕ) (line : List ℕ) (r : Reply) (rea
 noted_reply s c line r read x before notes next found is reads noted = grind arith
 
 -- where the client isn't open, nothing is
-pub fed_absent : (s s' : ServerState) (c : ℕ) (piece : List ℕ) (notes : List Note) → s' ≡ s → session c s' ≡ None → notes ≡ [] → notes ≡ take NOTE_LIMIT (notes_of_lines (executions_by s (Feed c piece) None))
+pub fed_nothing : (s : ServerState) (c : ℕ) (piece : List ℕ) → session c s ≡ None
+    → notes_of_lines (executions_by s (Feed c piece) None) ≡ []
 unfolding executions_by lines_executed after_lines
-fed_absent s s' c piece notes same absent none =
-    let stops : next_line_for s' c ≡ None = ap (option_and_then next_line) absent in
-    let nothing : notice s' c ≡ [] = ap (λ (o : Option SessionState). if option_map_or holds_overlong o false then of_notice s' c ∷ [] else []) absent in
-    let as_it_was : with_input s c piece ≡ s' = ap (λ (z : ServerState). with_input z c piece) (sym same) ∙ input_absent s' c piece absent in
-    none
-    ∙ sym (ap (λ (z : ServerState). take NOTE_LIMIT (notes_of_lines (executions_until z c None))) as_it_was
-    ∙ ap (λ (xs : List Execution). take NOTE_LIMIT (notes_of_lines xs)) (pumped_all 0 s' s' c refl (omega arith) stops ∙ nothing))
+fed_nothing s c piece absent =
+    let stops : next_line_for s c ≡ None = ap (option_and_then next_line) absent in
+    let nothing : notice s c ≡ [] = ap
+    (λ (o : Option SessionState). if option_map_or holds_overlong o false then of_notice s c ∷ [] else []) absent in
+    ap (λ (z : ServerState). notes_of_lines (executions_until z c None)) (input_absent s c piece absent) ∙ ap
+    notes_of_lines (pumped_all 0 s s c refl (omega arith) stops ∙ nothing)
 
-pub fed_noted : (s s' j : ServerState) (c : ℕ) (piece : List ℕ) (o : Outcome) (r : RunningServer) → s' ≡ s → j ≡ with_input s' c piece → r.notes ≡ take NOTE_LIMIT (notes_of_lines (executions_until j c (refused_after o))) → IsNoted s (Feed c piece) o r
+pub fed_noted : (s j : ServerState) (c : ℕ) (piece : List ℕ) (o : Outcome) (notes : List Note)
+    → j ≡ with_input s c piece → notes ≡ take NOTE_LIMIT (notes_of_lines (executions_until j c (refused_after o)))
+    → notes ≡ notes_of s (Feed c piece) o
 unfolding executions_by
-fed_noted s s' j c piece o r same fed noted =
-    noted ∙ ap (λ (z : ServerState). take NOTE_LIMIT (notes_of_lines (executions_until z c (refused_after o)))) (fed ∙ ap (λ (z : ServerState). with_input z c piece) same)
+fed_noted s j c piece o notes fed noted = noted ∙ ap
+    (λ (z : ServerState). take NOTE_LIMIT (notes_of_lines (executions_until z c (refused_after o)))) fed
 
-pub took_never : (s s' : ServerState) (c n : ℕ) (o : Outcome) (r : RunningServer) → s' ≡ s → may_take (session c s') n ≡ false → r.notes ≡ [] → IsNoted s (Took c n) o r
+pub took_noted : (s j : ServerState) (c n : ℕ) (o : Outcome) (notes : List Note) → may_take (session c s) n ≡ true
+    → j ≡ without_output s c n → notes ≡ take NOTE_LIMIT (notes_of_lines (executions_until j c (refused_after o)))
+    → notes ≡ notes_of s (Took c n) o
 unfolding executions_by
-took_never s s' c n o r same never none =
-    none ∙ sym (ap (λ (b : Bool). take NOTE_LIMIT (notes_of_lines (if b then executions_until (without_output s c n) c (refused_after o) else []))) (ap (λ (z : ServerState). may_take (session c z) n) (sym same) ∙ never))
+took_noted s j c n o notes may took noted = rw may
+    (noted ∙ ap (λ (z : ServerState). take NOTE_LIMIT (notes_of_lines (executions_until z c (refused_after o)))) took)
 
-pub took_noted : (s s' j : ServerState) (c n : ℕ) (o : Outcome) (r : RunningServer) → s' ≡ s → may_take (session c s') n ≡ true → j ≡ without_output s' c n → r.notes ≡ take NOTE_LIMIT (notes_of_lines (executions_until j c (refused_after o))) → IsNoted s (Took c n) o r
-unfolding executions_by
-took_noted s s' j c n o r same may took noted =
-    noted
-    ∙ ap (λ (z : ServerState). take NOTE_LIMIT (notes_of_lines (executions_until z c (refused_after o)))) (took ∙ ap (λ (z : ServerState). without_output z c n) same)
-    ∙ sym (ap (λ (b : Bool). take NOTE_LIMIT (notes_of_lines (if b then executions_until (without_output s c n) c (refused_after o) else []))) (ap (λ (z : ServerState). may_take (session c z) n) (sym same) ∙ may))
+pub close_noted : (s : ServerState) (c : ℕ) (x : SessionState) (notes notes' : List Note) → session c s ≡ Some x
+    → notes ≡ [] → notes' ≡ with_note (logout_of x) notes → notes' ≡ notes_of s (Close c) Done
+close_noted s c x notes notes' found none noted = noted ∙ one_noted [] (logout_of x) notes none ∙ sym
+    (ap (λ (o : Option SessionState). take NOTE_LIMIT (cons_option (option_and_then logout_of o) [])) found)
 
 then_more : (o : Option Note) (xs ys : List Note) → cons_option o (xs ++ ys) ≡ cons_option o xs ++ ys
 then_more None xs ys = refl

@@ -2,12 +2,11 @@
 use Rattle.std.proofs.Common.{◌≡◌, List, [], ◌∷◌, ◌++◌, ◌∙◌, refl, ap, subst, inl, inr}
 use Rattle.nutcore.proofs.Common.{Event, Outcome, ServerState, session, Step, after, Run}
 use Rattle.nutcore.specs.Session.{IdsRise}
-use Rattle.nutcore.specs.Headline.{IsLawful, Serves}
+use Rattle.nutcore.specs.Headline.{IsLawful}
 use Rattle.nutcore.specs.declared.cost.Cost.{Cost}
 use Rattle.nutcore.specs.Cost.{RunningServer, cost_of, last_cost}
 use Rattle.nutcore.proofs.Found.{cases_Option}
 use Rattle.nutcore.proofs.Places.{rise_lawful}
-use Rattle.nutcore.proofs.Stepping.{run_sent, run_taken_up}
 
 -- a run goes on by one event
 pub run_push : (s m t : ServerState) (es : List Event) (os : List Outcome) (e : Event) (o : Outcome) → Run s es os m → Step m e o t → Run s (es ++ e ∷ []) (os ++ o ∷ []) t
@@ -26,18 +25,6 @@ cost_push before s m t es os e o r step = absurd r
 pub lawful : (s : ServerState) → IdsRise 1 s.next_id s.sessions → IsLawful s
 lawful s ids c some = elim (cases_Option (session c s)) [ inl none ↦ cc (rw none at some) | inr (x, found) ↦ (rise_lawful 1 s.next_id c s.sessions ids x found).1 ]
 
--- one event, as a run of its own
-pub served : (s t : ServerState) (e : Event) (o : Outcome) → IsLawful s → Step s e o t → Serves s e o t
-served s t e o lawful step = record {
-  step = step;
-  sent_and_owed = λ c. run_sent s t (e ∷ []) (o ∷ []) lawful (t, step, refl) c;
-  taken_up = λ c. run_taken_up s t (e ∷ []) (o ∷ []) lawful (t, step, refl) c;
-}
-
 -- the state of a server
 pub state_is : {s t : RunningServer} → s ≡ t → s.state ≡ t.state
 state_is e = ap (λ (r : RunningServer). r.state) e
-
--- an event of a server whose state is that of another
-pub served_from : (s s' t : ServerState) (e : Event) (o : Outcome) → s ≡ s' → IsLawful s → Step s e o t → Serves s' e o t
-served_from s s' t e o same lawful step = subst (λ (z : ServerState). Serves z e o t) same (served s t e o lawful step)

@@ -5,7 +5,8 @@ use Rattle.std.specs.Option.{option_map, option_map_or}
 use Rattle.std.specs.Result.{result_err}
 use denote.Ref.{Bor}
 use Rattle.nutcore.specs.declared.event.Fault.TheVariants.{LineTooLong}
-use Rattle.nutcore.proofs.Common.{Change, SessionState, ServerState, session, with_session, with_session_changed}
+use Rattle.nutcore.proofs.Common.{same_Some, Change, SessionState, ServerState, session, with_session}
+use Rattle.nutcore.proofs.Common.{with_session_changed}
 use Rattle.nutcore.specs.Session.{find, without, IdsRise, new_session}
 use Rattle.std.specs.declared.alloc.AllocError.{AllocError}
 use Rattle.nutwords.specs.declared.limits.TheConstants.{LINE_LIMIT}
@@ -17,7 +18,6 @@ use Rattle.nuttracking.specs.Tracking.{TrackingState}
 use Rattle.nutcore.specs.Ups.{UpsState}
 use Rattle.nutcore.specs.Reply.{seen, asker, asker_of, reply, text_to, refusal_by, change_by, changed_session, changed_upses, changed_tracking}
 use Rattle.nutcore.specs.Pump.{next_line, next_line_for, answered, after_line, after_lines, pump_stops, held_of, after_all_lines, pumped, after_notice, is_overlong, notified, wants_memory, shares_version_read}
-use Rattle.nutcore.specs.Step.{offered, may_take}
 use Rattle.nutparse.specs.declared.command.Command.{Command}
 use Rattle.nutparse.specs.declared.err_word.ErrWord.{ErrWord}
 use Rattle.nutparse.specs.ErrWord.{error_line}
@@ -43,22 +43,27 @@ pub on_err : {T E : Type 0} (r : Result T E) (P : Type 0) → P → OnErr r P
 on_err r P p = grind arith
 
 -- the session that stands at the place, where a view of the server is known
-pub found_in : (c i : ℕ) (s t : ServerState) (x : SessionState) → s ≡ t → IsAt c i t.sessions → x ≡ get_or s.sessions i x → session c t ≡ Some x
-found_in c i s t x e h at = found_at c i t.sessions x h (at ∙ ap (λ (z : ServerState). get_or z.sessions i x) e)
+pub found_in : {c i : ℕ} {s t : ServerState} {x : SessionState} → s ≡ t → IsAt c i t.sessions
+    → x ≡ get_or s.sessions i x → session c t ≡ Some x
+found_in {c} {i} {s} {t} {x} e h at = found_at c i t.sessions x h
+    (at ∙ ap (λ (z : ServerState). get_or z.sessions i x) e)
+
+-- it is one, however often it is looked up
+pub same_found : {c i : ℕ} {s t : ServerState} {x y : SessionState} → s ≡ t → IsAt c i t.sessions
+    → x ≡ get_or s.sessions i x → y ≡ get_or s.sessions i y → x ≡ y
+same_found {c} {i} {s} {t} {x} {y} e h at here = same_Some x y (sym (found_in e h at) ∙ found_in e h here)
 
 -- so stands the session at its place
 pub record StandsAt (s : ServerState) (c i : ℕ) (x : SessionState) : Type 0 where
   pub at : IsAt c i s.sessions
   pub found : session c s ≡ Some x
 
-pub stands : (c i : ℕ) (s t : ServerState) (x : SessionState) → s ≡ t → IsAt c i t.sessions → x ≡ get_or s.sessions i x → StandsAt s c i x
-stands c i s t x e h is = record {
+pub stands : {c i : ℕ} {s t : ServerState} {x : SessionState} → s ≡ t → IsAt c i t.sessions → x ≡ get_or s.sessions i x
+    → StandsAt s c i x
+stands {c} {i} e h is = record {
   at = subst (λ (z : ServerState). IsAt c i z.sessions) (sym e) h;
-  found = ap (session c) e ∙ found_in c i s t x e h is;
+  found = ap (session c) e ∙ found_in e h is;
 }
-
-pub at_found : (c i : ℕ) (xs : List SessionState) → IsAt c i xs → find c xs ≡ Some (get_or xs (place c xs) (new_session 0 []))
-at_found c i xs h = let lt : place c xs < length xs = omega (arith, h.first, h.within) in find_at c xs (new_session 0 []) lt
 
 -- a session in place of the one that stands there
 pub set_is : (s : ServerState) (c i : ℕ) (y : SessionState) → IsAt c i s.sessions → y.id ≡ c → (let code : ServerState = record s { sessions = set s.sessions i y } in code ≡ with_session s y)
@@ -86,7 +91,7 @@ next_end_is s c x found = ap (λ (o : Option SessionState). option_map length (o
 
 -- where the code finds that the next line of the session at its place ends, the client's does
 pub ends_at : (c i : ℕ) (s t : ServerState) (x : SessionState) (r : Option ℕ) → s ≡ t → IsAt c i t.sessions → x ≡ get_or s.sessions i x → r ≡ option_map length (next_line x) → option_map length (next_line_for t c) ≡ r
-ends_at c i s t x r e at is end = sym (next_end_is t c x (found_in c i s t x e at is)) ∙ sym end
+ends_at c i s t x r e at is end = sym (next_end_is t c x (found_in e at is)) ∙ sym end
 
 pub line_there : (o : Option (List ℕ)) (end : ℕ) → option_map length o ≡ Some end → (line : List ℕ) × (o ≡ Some line)
 line_there o end h = grind arith
@@ -129,7 +134,7 @@ pub record HeardAt (s : ServerState) (c : ℕ) (line : List ℕ) (r : Result Rep
 pub heard : (v s : ServerState) (c i : ℕ) (x : SessionState) (line : List ℕ) (who : AskerSeen) (read : Result (Option Command) ErrWord) (r : Result Reply AllocError) → v ≡ s → IsAt c i s.sessions → x ≡ get_or v.sessions i x → next_line x ≡ Some line →
     who ≡ asker_of (Some x) → read ≡ read_command line → AnswersEach (seen v) who read r → HeardAt s c line r
 heard v s c i x line who read r is at stands next asks reads told =
-    let found : session c s ≡ Some x = found_in c i v s x is at stands in
+    let found : session c s ≡ Some x = found_in is at stands in
     record {
       next = ap (option_and_then next_line) found ∙ next;
       told = told s c line (ap seen is) (asks ∙ ap asker_of (sym found)) (sym reads);
@@ -181,13 +186,6 @@ wants_is s c line next listing = let e : wants_memory s c ≡ true = ap (λ (o :
 
 pub refused : (s t u : ServerState) (c k : ℕ) → t ≡ after_lines k s c → IsTrue (wants_memory t c) → u ≡ t → IsTrue (wants_memory (after_lines k s c) c) × (u ≡ after_lines k s c)
 refused s t u c k e wants same = (subst (λ (z : ServerState). IsTrue (wants_memory z c)) e wants, same ∙ e)
-
--- how many bytes may be taken
-pub may_take_true : (o : Option SessionState) (x : SessionState) (n k : ℕ) → o ≡ Some x → k ≡ length (offered o) → n ≤ k → may_take o n ≡ true
-may_take_true o x n k e ek le = grind arith
-
-pub may_take_false : (o : Option SessionState) (x : SessionState) (n k : ℕ) → o ≡ Some x → k ≡ length (offered o) → k < n → may_take o n ≡ false
-may_take_false o x n k e ek lt = grind arith
 
 -- what is left of the sessions where one is removed at its place
 pub left_out : (l n c i : ℕ) (xs : List SessionState) → IdsRise l n xs → IsAt c i xs → without c xs ≡ take i xs ++ drop (i + 1) xs

@@ -35,11 +35,6 @@ changed_agree f g i [] agree = refl
 changed_agree f g zero (x ∷ xs) agree = ap (λ (y : UpsState). y ∷ xs) (agree x refl)
 changed_agree f g (suc i) (x ∷ xs) agree = ap (λ (ys : List UpsState). x ∷ ys) (changed_agree f g i xs agree)
 
-changed_twice : (f g : UpsState → UpsState) (i : ℕ) (xs : List UpsState) → changed_at g i (changed_at f i xs) ≡ changed_at (λ x. g (f x)) i xs
-changed_twice f g i [] = refl
-changed_twice f g zero (x ∷ xs) = refl
-changed_twice f g (suc i) (x ∷ xs) = ap (λ (ys : List UpsState). x ∷ ys) (changed_twice f g i xs)
-
 unchanged : (i : ℕ) (xs : List UpsState) → changed_at (λ x. x) i xs ≡ xs
 unchanged i [] = refl
 unchanged zero (x ∷ xs) = refl
@@ -84,9 +79,6 @@ with_upses s xs = record s { upses = xs }
 pub server_agree : (s : ServerState) (u : UpsId) (f g : UpsState → UpsState) → OfUps u s (λ x. f x ≡ g x) → with_ups_changed f u s ≡ with_ups_changed g u s
 server_agree s u f g agree = ap (with_upses s) (changed_agree f g u.place s.upses agree)
 
-pub server_twice : (f g : UpsState → UpsState) (u : UpsId) (s : ServerState) → with_ups_changed g u (with_ups_changed f u s) ≡ with_ups_changed (λ x. g (f x)) u s
-server_twice f g u s = ap (with_upses s) (changed_twice f g u.place s.upses)
-
 pub server_unchanged : (u : UpsId) (s : ServerState) → with_ups_changed (λ x. x) u s ≡ s
 server_unchanged u s = ap (with_upses s) (unchanged u.place s.upses)
 
@@ -95,10 +87,6 @@ server_same s u f same = sym (server_agree s u f (λ x. x) same ∙ server_uncha
 
 pub server_set : (s : ServerState) (u : UpsId) (f : UpsState → UpsState) (x y : UpsState) → ups_at u.place s ≡ Some x → y ≡ f x → (let code : ServerState = record s { upses = set s.upses u.place y } in code ≡ with_ups_changed f u s)
 server_set s u f x y there e = ap (with_upses s) (set_changed f u.place s.upses x y there e)
-
--- where one UPS was put
-pub changed_to : (s t : ServerState) (u : UpsId) (f : UpsState → UpsState) (x y : UpsState) → ups_at u.place s ≡ Some x → y ≡ f x → t ≡ with_ups_changed (λ z. y) u s → t ≡ with_ups_changed f u s
-changed_to s t u f x y there e leaves = leaves ∙ server_agree s u (λ z. y) f (of_ups s u x (λ z. y ≡ f z) there e)
 
 pub left_at : (s t : ServerState) (u : UpsId) (x y : UpsState) → ups_at u.place s ≡ Some x → t ≡ with_ups_changed (λ z. y) u s → ups_at u.place t ≡ Some y
 left_at s t u x y there leaves = ap (ups_at u.place) leaves ∙ at_changed (λ z. y) u.place s.upses x there

@@ -1,7 +1,8 @@
--- The results of the server's calls, as outcomes of events.
-use Rattle.std.specs.Prelude.{◌≡◌, ℕ, Bool, List, Result, Ok, Err, Option, Some, None, ◌-◌, ◌&&◌}
+-- What the server's calls answer and do: their results as outcomes of events.
+use Rattle.std.specs.Prelude.{◌≡◌, ℕ, Bool, List, [], ◌∷◌, Result, Ok, Err, Option, Some, None, ◌-◌, ◌&&◌}
 use Rattle.std.specs.Prelude.{◌==◌, if◌then◌else◌, length, take}
 use Rattle.nutcore.specs.declared.TheConstants.{HELD_LIMIT}
+use Rattle.nutcore.specs.declared.event.Event.{Event}
 use Rattle.nutcore.specs.declared.event.Outcome.{Outcome}
 use Rattle.nutcore.specs.declared.server.status.Standing.{Standing}
 use Rattle.nutcore.specs.declared.event.Outcome.TheVariants.{Done, Fed, Opened, Refused}
@@ -11,6 +12,10 @@ use Rattle.nutlisting.specs.Owed.{Owes, owed, IsOutbox}
 use Rattle.nutlisting.specs.declared.byte_queue.TheConstants.{QUEUE_LIMIT}
 use Rattle.nutcore.specs.Session.{SessionState}
 use Rattle.nutcore.specs.Ups.{UpsState}
+use Rattle.nutcore.specs.Step.{Step}
+use Rattle.nutcore.specs.Headline.{SentAndOwed, TakenUp}
+use Rattle.nutcore.specs.Cost.{RunningServer, cost_of}
+use Rattle.nutcore.specs.Notes.{notes_of}
 
 abbrev pub fed : Result ℕ Fault → Outcome
 fed (Ok n) = Fed n
@@ -65,3 +70,13 @@ is_connected x = x.report.connected
 -- What the UPS's driver is owed.
 abbrev pub owed_to : UpsState → List ℕ
 owed_to x = x.owed
+
+-- One event: what it leaves by its outcome, and the same of it by itself as of a run; what it cost;
+-- and what was noted of it.
+pub record IsEvent (old : RunningServer) (event : Event) (outcome : Outcome) (new : RunningServer)
+    : Type 0 where
+  pub step : Step old.state event outcome new.state
+  pub sent_and_owed : (c : ℕ) → SentAndOwed c old.state (event ∷ []) (outcome ∷ []) new.state
+  pub taken_up : (c : ℕ) → TakenUp c old.state (event ∷ []) (outcome ∷ []) new.state
+  pub cost : new.cost ≡ cost_of old.state event new.state
+  pub notes : new.notes ≡ notes_of old.state event outcome

@@ -1,5 +1,5 @@
 -- What an event costs: the lines it renders and the bytes it places.
-use Rattle.std.specs.Prelude.{◌≡◌, ℕ, ◌+◌, ◌-◌, List, [], ◌∷◌, length, drop}
+use Rattle.std.specs.Prelude.{ℕ, ◌+◌, ◌-◌, List, [], ◌∷◌, length, drop}
 use Rattle.nutlisting.specs.Counts.{lines}
 use Rattle.nutcore.specs.declared.cost.Cost.{Cost}
 use Rattle.nutcore.specs.declared.note.Note.{Note}
@@ -19,7 +19,7 @@ pub record RunningServer : Type 0 where
 abbrev pub no_cost : Cost
 no_cost = record { rendered = 0; placed = 0 }
 
--- A server before any event.
+-- A server before any event, and once what the last one cost and did is forgotten.
 abbrev pub begun : ServerState → RunningServer
 begun s = record { state = s; cost = no_cost; notes = [] }
 
@@ -42,10 +42,6 @@ abbrev pub cost_of : ServerState → Event → ServerState → Cost
 cost_of old (Feed c piece) new = client_cost c old (Feed c piece) new
 cost_of old (Took c n) new = client_cost c old (Took c n) new
 cost_of old _ new = no_cost
-
--- This is what the event cost.
-abbrev pub Costs : RunningServer → Event → RunningServer → Type 0
-Costs old e new = new.cost ≡ cost_of old.state e new.state
 
 -- Of a run: what its last event cost, and what was the cost before where it has none.
 abbrev pub last_cost : Cost → ServerState → List Event → List Outcome → Cost

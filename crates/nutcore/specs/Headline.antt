@@ -1,12 +1,10 @@
 -- The laws of every run: what was sent and is owed is the answers.
-use Rattle.std.specs.Prelude.{◌≡◌, ◌⊎◌, ℕ, ◌<◌, ◌≤◌, length, true, false, List, [], ◌∷◌, ◌++◌, All}
+use Rattle.std.specs.Prelude.{◌≡◌, ◌⊎◌, ℕ, ◌<◌, ◌≤◌, length, true, false, List, ◌∷◌, ◌++◌, All}
 use Rattle.std.specs.Prelude.{Some, is_some, codes, nat_eq}
 use Rattle.std.specs.List.{starts_with}
 use Rattle.nutlisting.specs.declared.outbox.TheConstants.{OWED_LIMIT}
 use Rattle.nutcore.specs.declared.event.Event.{Event}
-use Rattle.nutcore.specs.declared.event.Event.TheVariants.{DriverUp, DriverBytes, DriverTook}
-use Rattle.nutcore.specs.declared.event.Event.TheVariants.{DriverDown, Tick, Open, Feed, Took}
-use Rattle.nutcore.specs.declared.event.Event.TheVariants.{Close, Id}
+use Rattle.nutcore.specs.declared.event.Event.TheVariants.{Feed, Took}
 use Rattle.nutcore.specs.declared.event.Outcome.{Outcome}
 use Rattle.nutcore.specs.declared.event.Outcome.TheVariants.{Done, Fed, Refused}
 use Rattle.nutcore.specs.declared.event.Fault.TheVariants.{Memory}
@@ -47,13 +45,6 @@ pub record TakenUp (c : ℕ) (old : ServerState) (events : List Event) (outcomes
   pub once_over : is_over c new ≡ true
       → IsBeginning (executed c old events outcomes) (held c old ++ asked c old events outcomes)
 
--- One event: what it leaves by its outcome, and the same of it by itself as of a run.
-pub record Serves (old : ServerState) (event : Event) (outcome : Outcome) (new : ServerState)
-    : Type 0 where
-  pub step : Step old event outcome new
-  pub sent_and_owed : (c : ℕ) → SentAndOwed c old (event ∷ []) (outcome ∷ []) new
-  pub taken_up : (c : ℕ) → TakenUp c old (event ∷ []) (outcome ∷ []) new
-
 -- In every run, of every client.
 abbrev pub WhatWasSentAndIsOwedIsTheAnswers : Type 0
 WhatWasSentAndIsOwedIsTheAnswers =
@@ -77,16 +68,9 @@ IsInPump begun c (of_notice s d) =
 -- It belongs to this event on this server: to the pump that begins once the bytes have come, or are
 -- taken.
 abbrev pub IsInEvent : ServerState → Event → Execution → Type 0
-IsInEvent s (DriverUp u) x = ⊥
-IsInEvent s (DriverBytes u piece) x = ⊥
-IsInEvent s (DriverTook u n) x = ⊥
-IsInEvent s (DriverDown u) x = ⊥
-IsInEvent s (Tick seconds) x = ⊥
-IsInEvent s (Open address) x = ⊥
 IsInEvent s (Feed c piece) x = IsInPump (with_input s c piece) c x
 IsInEvent s (Took c n) x = IsInPump (without_output s c n) c x
-IsInEvent s (Close c) x = ⊥
-IsInEvent s (Id id) x = ⊥
+IsInEvent s _ x = ⊥
 
 -- It belongs to an event of the run, on the server to which the run's own beginning before that
 -- event leads.

@@ -6,8 +6,7 @@ use Rattle.nuttracking.specs.declared.order.TrackedOrder.{TrackedOrder}
 use Rattle.nutusers.specs.declared.ups_list.UpsId.{UpsId}
 use Rattle.nutcore.specs.declared.event.Event.{Event}
 use Rattle.nutcore.specs.declared.event.Event.TheVariants.{DriverUp, DriverBytes, DriverTook}
-use Rattle.nutcore.specs.declared.event.Event.TheVariants.{DriverDown, Tick, Open, Feed, Took}
-use Rattle.nutcore.specs.declared.event.Event.TheVariants.{Close, Id}
+use Rattle.nutcore.specs.declared.event.Event.TheVariants.{DriverDown, Feed, Took, Close}
 use Rattle.nutcore.specs.declared.event.Outcome.{Outcome}
 use Rattle.nutcore.specs.declared.event.Outcome.TheVariants.{Refused}
 use Rattle.nutcore.specs.declared.event.Fault.{Fault}
@@ -20,16 +19,10 @@ use Rattle.nutcore.specs.Step.{Step}
 
 -- The client whose event it is.
 abbrev pub client_of : Event → Option ℕ
-client_of (DriverUp u) = None
-client_of (DriverBytes u piece) = None
-client_of (DriverTook u n) = None
-client_of (DriverDown u) = None
-client_of (Tick seconds) = None
-client_of (Open address) = None
 client_of (Feed c piece) = Some c
 client_of (Took c n) = Some c
 client_of (Close c) = Some c
-client_of (Id id) = None
+client_of _ = None
 
 -- The UPS whose driver's event it is.
 abbrev pub ups_of : Event → Option UpsId
@@ -37,12 +30,7 @@ ups_of (DriverUp u) = Some u
 ups_of (DriverBytes u piece) = Some u
 ups_of (DriverTook u n) = Some u
 ups_of (DriverDown u) = Some u
-ups_of (Tick seconds) = None
-ups_of (Open address) = None
-ups_of (Feed c piece) = None
-ups_of (Took c n) = None
-ups_of (Close c) = None
-ups_of (Id id) = None
+ups_of _ = None
 
 -- A UPS except for what commands change of it: its forced shutdown, and what its driver is owed.
 abbrev pub without_commands : UpsState → UpsState

@@ -10,6 +10,7 @@ pub mod Run
 pub mod History
 pub mod Notes
 pub mod Cost
+pub mod Recording
 pub mod Headline
 pub mod Isolation
 pub mod Happenings

@@ -41,7 +41,6 @@ use Rattle.nutdriver.specs.Report.{after_line, end_in}
 use Rattle.nutcore.specs.Session.{SessionState}
 use Rattle.nutcore.specs.Server.{ServerState, session, ups_at}
 use Rattle.nutcore.specs.Step.{refused_after}
-use Rattle.nutcore.specs.Cost.{RunningServer}
 use Rattle.nutcore.specs.Sound.{IsSound}
 use Rattle.nutcore.specs.Reply.{refusal_by, change_by}
 use Rattle.nutcore.specs.History.{Execution, of_line, of_notice, executions_by}
@@ -209,10 +208,6 @@ all_notes s _ m = []
 -- As many of them as there is room for.
 abbrev pub notes_of : ServerState → Event → Outcome → List Note
 notes_of s e outcome = take NOTE_LIMIT (all_notes s e (refused_after outcome))
-
--- These are noted of an event.
-abbrev pub IsNoted : ServerState → Event → Outcome → RunningServer → Type 0
-IsNoted old e outcome new = new.notes ≡ notes_of old e outcome
 
 -- A driver's bytes are as many as the loop reads at once.
 abbrev pub IsReadAtOnce : Event → Type 0

@@ -217,18 +217,13 @@ driver_may_lack_memory u piece k s =
 -- Memory may be refused after k lines of the event. The next line of a client stays held, to be
 -- tried again.
 unfoldable pub MayLackMemory : ServerState → Event → ℕ → Type 0
-MayLackMemory s (DriverUp u) k = ⊥
 MayLackMemory s (DriverBytes u piece) k = IsTrue (driver_may_lack_memory u piece k s)
-MayLackMemory s (DriverTook u n) k = ⊥
-MayLackMemory s (DriverDown u) k = ⊥
-MayLackMemory s (Tick seconds) k = ⊥
 MayLackMemory s (Open address) k = (k ≡ 0) × IsTrue (may_open s)
 MayLackMemory s (Feed c piece) k = IsTrue (wants_memory (after_lines k (with_input s c piece) c) c)
 MayLackMemory s (Took c n) k =
     IsTrue (may_take (session c s) n)
     × IsTrue (wants_memory (after_lines k (without_output s c n) c) c)
-MayLackMemory s (Close c) k = ⊥
-MayLackMemory s (Id id) k = ⊥
+MayLackMemory s _ k = ⊥
 
 -- Beside the one outcome there is only being out of memory.
 abbrev pub MayAnswer : ServerState → Event → Outcome → Type 0

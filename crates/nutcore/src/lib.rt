@@ -8,6 +8,7 @@ pub mod laws;
 mod lines;
 mod max_age;
 mod note;
+mod record;
 mod scratch;
 mod server;
 mod session;
@@ -22,6 +23,7 @@ pub use nutlisting::{OWED_LIMIT, Outbox, QUEUE_LIMIT, SESSION_LIMIT};
 pub use nutusers::{Descriptions, UpsId, UpsList, Users};
 pub use nutwords::Bytes;
 use nutwords::LINE_ROOM;
+pub use record::Record;
 pub use server::{Server, Standing};
 
 /// The most bytes of input that a session holds: those of the longest line with its LF.

@@ -1,6 +1,7 @@
 //! What an event did that the journal logs.
 ghost use Rattle.std.specs.Prelude.{◌≡◌};
 ghost use Rattle.nutcore.specs.Notes.{data_note};
+ghost use Rattle.nutcore.specs.Promises.{with_note};
 
 use crate::HELD_LIMIT;
 use crate::event::ClientId;
@@ -102,9 +103,13 @@ pub struct Deed {
 /// The notes of an event.
 pub(crate) type Notes = BoundedList<Note, NOTE_LIMIT>;
 
-/// The note of the state of a UPS's data, where it was another.
-pub(crate) fn data_note(u: UpsId, was: DataState, is: DataState) -> Option<Note>
-    ensures { result ≡ data_note u was is }
+/// Notes the state of a UPS's data, where it was another. It is a call of its own, since inlined its
+/// room on the stack would be cleared at each line of a driver.
+#[inline(never)]
+pub(crate) fn note_data(u: UpsId, was: DataState, is: DataState, notes: &mut Notes)
+    ensures { notes.new ≡ with_note (data_note u was is) notes.old }
 {
-    (is != was).then_some(Note::Data(u, is))
+    if is != was {
+        notes.extend(Some(Note::Data(u, is)));
+    }
 }

@@ -1,5 +1,5 @@
 //! The server: its UPSs, its sessions, and what each event does.
-ghost use Rattle.std.specs.Prelude.{◌≡◌, ◌≢◌, ◌≤◌, ◌<◌, ℕ, length, replicate, take, [], IfOk, OnErr, MatchResult, vec_capacity, vec_len, is_some, Some, None, true, false};
+ghost use Rattle.std.specs.Prelude.{◌≡◌, ◌≤◌, ◌<◌, ℕ, length, replicate, take, [], IfOk, OnErr, MatchResult, vec_capacity, vec_len, is_some, Some, None, true, false};
 ghost use Rattle.std.specs.Option.{option_map};
 ghost use Rattle.std.specs.Io.BufRead.{Rests};
 ghost use Rattle.std.specs.Borrow.{sem};
@@ -7,14 +7,13 @@ ghost use Rattle.nuttracking.specs.Tracking.{nothing_tracked};
 ghost use Rattle.nutcore.specs.Server.{session, ups_at, new_server};
 ghost use Rattle.nutcore.specs.Ups.{new_ups};
 ghost use Rattle.nutusers.specs.UpsList.{place_of, id_at};
-ghost use Rattle.nutcore.specs.Step.{Step, offered};
+ghost use Rattle.nutcore.specs.Step.{offered};
 ghost use Rattle.nutcore.specs.Run.{Run};
-ghost use Rattle.nutcore.specs.Cost.{begun, no_cost, last_cost, Costs};
-ghost use Rattle.nutcore.specs.Notes.{IsNoted};
+ghost use Rattle.nutcore.specs.Cost.{begun, last_cost};
 ghost use Rattle.nutcore.specs.Sound.{IsSound};
 ghost use Rattle.nutcore.specs.History.{owed};
-ghost use Rattle.nutcore.specs.Headline.{SentAndOwed, TakenUp, Serves};
-ghost use Rattle.nutcore.specs.Calls.{is_connected, fed, done, opened_as, is_finished, room_of, owed_to, IsOutboxOf, Reads, ReadsUps};
+ghost use Rattle.nutcore.specs.Headline.{SentAndOwed, TakenUp};
+ghost use Rattle.nutcore.specs.Calls.{IsEvent, is_connected, fed, done, opened_as, is_finished, room_of, owed_to, IsOutboxOf, Reads, ReadsUps};
 ghost use Rattle.nutlisting.specs.declared.listing.clients.TheConstants.{SESSION_LIMIT};
 ghost use Rattle.nutlisting.specs.declared.byte_queue.TheConstants.{QUEUE_LIMIT};
 ghost use Rattle.nutcore.specs.contracts.server.Server.{the_row};
@@ -221,9 +220,8 @@ impl Server {
 
     /// What the last event cost and did is forgotten, as once a journal has its notes.
     pub fn forget(&mut self)
-        ensures state { self.new.state ≡ self.old.state }
-        ensures none { self.new.cost ≡ no_cost }
-        ensures notes { self.new.notes ≡ [] }
+        ensures begun { self.new ≡ begun self.old.state }
+        ensures sound { IsSound self.new.state }
     {
         self.scratch.renders = 0;
         self.placed = 0;
@@ -245,13 +243,10 @@ impl Server {
     ///
     /// `NoSuchUps` and `AlreadyConnected`, which change nothing but the cost.
     pub fn driver_up(&mut self, u: UpsId) -> Result<(), Fault>
-        ensures served { Serves self.old.state (Event.DriverUp u) (done result) self.new.state }
-        ensures cost { Costs self.old (Event.DriverUp u) self.new }
-        ensures notes { IsNoted self.old.state (Event.DriverUp u) (done result) self.new }
-        ensures no_memory { (k : ℕ) → result ≢ Err (Fault.Memory k) }
+        ensures { IsEvent self.old (Event.DriverUp u) (done result) self.new }
     {
         self.forget();
-        if self.ups_of(u)?.report.connected {
+        if self.driver_connected(u)? {
             return Err(Fault::AlreadyConnected);
         }
         every_server_is_sound();
@@ -268,11 +263,7 @@ impl Server {
     /// `NoSuchUps` and `NotConnected`, which change nothing but the cost; `LineTooLong`, after the
     /// lines before; `Memory`, with how many lines of the call were done.
     pub fn driver_bytes(&mut self, u: UpsId, piece: &[u8]) -> Result<(), Fault>
-        ensures served { Serves self.old.state (Event.DriverBytes u piece.now)
-            (done result) self.new.state }
-        ensures cost { Costs self.old (Event.DriverBytes u piece.now) self.new }
-        ensures notes { IsNoted self.old.state (Event.DriverBytes u piece.now)
-            (done result) self.new }
+        ensures { IsEvent self.old (Event.DriverBytes u piece.now) (done result) self.new }
     {
         self.forget();
         self.connected(u)?;
@@ -323,10 +314,7 @@ impl Server {
     ///
     /// `NoSuchUps`, `NotConnected` and `TookTooMuch`, which change nothing but the cost.
     pub fn driver_took(&mut self, u: UpsId, n: usize) -> Result<(), Fault>
-        ensures served { Serves self.old.state (Event.DriverTook u n) (done result) self.new.state }
-        ensures cost { Costs self.old (Event.DriverTook u n) self.new }
-        ensures notes { IsNoted self.old.state (Event.DriverTook u n) (done result) self.new }
-        ensures no_memory { (k : ℕ) → result ≢ Err (Fault.Memory k) }
+        ensures { IsEvent self.old (Event.DriverTook u n) (done result) self.new }
     {
         self.forget();
         self.connected(u)?;
@@ -341,10 +329,7 @@ impl Server {
     ///
     /// `NoSuchUps` and `NotConnected`, which change nothing but the cost.
     pub fn driver_down(&mut self, u: UpsId) -> Result<(), Fault>
-        ensures served { Serves self.old.state (Event.DriverDown u) (done result) self.new.state }
-        ensures cost { Costs self.old (Event.DriverDown u) self.new }
-        ensures notes { IsNoted self.old.state (Event.DriverDown u) (done result) self.new }
-        ensures no_memory { (k : ℕ) → result ≢ Err (Fault.Memory k) }
+        ensures { IsEvent self.old (Event.DriverDown u) (done result) self.new }
     {
         self.forget();
         self.connected(u)?;
@@ -358,9 +343,7 @@ impl Server {
     /// was heard for a third of the greatest age, and which wasn't asked for as long, is owed
     /// `PING`, where it fits. Takes no memory.
     pub fn tick(&mut self, seconds: u64)
-        ensures served { Serves self.old.state (Event.Tick seconds) Outcome.Done self.new.state }
-        ensures cost { Costs self.old (Event.Tick seconds) self.new }
-        ensures notes { IsNoted self.old.state (Event.Tick seconds) Outcome.Done self.new }
+        ensures { IsEvent self.old (Event.Tick seconds) Outcome.Done self.new }
     {
         self.forget();
         let moment = seconds.max(self.moment);
@@ -389,10 +372,7 @@ impl Server {
     ///
     /// `TooManyClients`, and `Memory(0)`; both change nothing.
     pub fn open(&mut self, address: Address) -> Result<ClientId, Fault>
-        ensures served { Serves self.old.state (Event.Open address)
-            (opened_as result) self.new.state }
-        ensures cost { Costs self.old (Event.Open address) self.new }
-        ensures notes { IsNoted self.old.state (Event.Open address) (opened_as result) self.new }
+        ensures { IsEvent self.old (Event.Open address) (opened_as result) self.new }
     {
         self.forget();
         if self.sessions.len() >= SESSION_LIMIT || self.last_id == u64::MAX {
@@ -429,11 +409,7 @@ impl Server {
     /// `ERR TOO-LONG`, and is ending. After `Memory(k)` k lines were executed, and the next one, a
     /// listing, stays held: it is tried again at the next call.
     pub fn feed(&mut self, c: ClientId, piece: &[u8]) -> Result<usize, Fault>
-        ensures served { Serves self.old.state (Event.Feed c piece.now)
-            (fed result) self.new.state }
-        ensures cost { Costs self.old (Event.Feed c piece.now) self.new }
-        ensures notes { IsNoted self.old.state (Event.Feed c piece.now)
-            (fed result) self.new }
+        ensures { IsEvent self.old (Event.Feed c piece.now) (fed result) self.new }
     {
         self.forget();
         let place = self.place_of(c)?;
@@ -496,9 +472,7 @@ impl Server {
     /// `NoSuchClient` and `TookTooMuch` change nothing but the cost. After `LineTooLong` and
     /// `Memory` the bytes are taken; else they leave what they leave at `feed`.
     pub fn took(&mut self, c: ClientId, n: usize) -> Result<(), Fault>
-        ensures served { Serves self.old.state (Event.Took c n) (done result) self.new.state }
-        ensures cost { Costs self.old (Event.Took c n) self.new }
-        ensures notes { IsNoted self.old.state (Event.Took c n) (done result) self.new }
+        ensures { IsEvent self.old (Event.Took c n) (done result) self.new }
     {
         self.forget();
         let place = self.place_of(c)?;
@@ -528,10 +502,7 @@ impl Server {
     ///
     /// `NoSuchClient`, which changes nothing but the cost.
     pub fn close(&mut self, c: ClientId) -> Result<(), Fault>
-        ensures served { Serves self.old.state (Event.Close c) (done result) self.new.state }
-        ensures cost { Costs self.old (Event.Close c) self.new }
-        ensures notes { IsNoted self.old.state (Event.Close c) (done result) self.new }
-        ensures no_memory { (k : ℕ) → result ≢ Err (Fault.Memory k) }
+        ensures { IsEvent self.old (Event.Close c) (done result) self.new }
     {
         self.forget();
         let place = self.place_of(c)?;
@@ -547,10 +518,7 @@ impl Server {
     /// `KnownId`, where it is available or a tracked order has it, and then `TooManyIds`, where 64
     /// are available. Both change nothing but the cost.
     pub fn id(&mut self, id: u128) -> Result<(), Fault>
-        ensures served { Serves self.old.state (Event.Id id) (done result) self.new.state }
-        ensures cost { Costs self.old (Event.Id id) self.new }
-        ensures notes { IsNoted self.old.state (Event.Id id) (done result) self.new }
-        ensures no_memory { (k : ℕ) → result ≢ Err (Fault.Memory k) }
+        ensures { IsEvent self.old (Event.Id id) (done result) self.new }
     {
         self.forget();
         match self.tracking.take_in(id) {
@@ -562,9 +530,7 @@ impl Server {
 
     /// One event: what its call above does.
     pub fn step(&mut self, event: &Event) -> Outcome
-        ensures step { Step self.old.state event.now result self.new.state }
-        ensures cost { Costs self.old event.now self.new }
-        ensures notes { IsNoted self.old.state event.now result self.new }
+        ensures { IsEvent self.old event.now result self.new }
     {
         match event {
             Event::DriverUp(u) => done(self.driver_up(*u)),

@@ -6,14 +6,14 @@ ghost use Rattle.nutcore.specs.Reports.{with_end, is_unawaited};
 ghost use Rattle.nutcore.specs.Notes.{data_state_of, status_of, fault_of, loss_notes, status_note};
 ghost use Rattle.nutcore.specs.Promises.{IsTaken, DoesLine, IsApplied, LacksMemory, Reports, IsFront, front_or, with_hearing, with_note};
 ghost use Rattle.nutcore.specs.declared.note.DataState.TheVariants.{Awaited};
-ghost use Rattle.nutcore.specs.declared.note.Note.TheVariants.{Data};
+ghost use Rattle.nutcore.specs.declared.note.Note.TheVariants.{Data, LineRefused};
 ghost use Rattle.nutcore.specs.declared.note.TheConstants.{NOTE_LIMIT};
 ghost use Rattle.nutdriver.specs.LastLine.{value_of};
 ghost use Rattle.nutdriver.specs.Report.{HasLawfulNumber, line_changes, reported_end};
 
 use crate::DRIVER_OWED_LIMIT;
 use crate::event::Fault;
-use crate::note::{DataState, Note, Notes, data_note};
+use crate::note::{DataState, Note, Notes, note_data};
 use arrayvec::ArrayVec;
 use nutdriver::laws::{other_lines_leave_the_value, reported_numbers_are_lawful};
 use nutdriver::{DriverFault, DriverLine, LineOutcome, Report, Tree};
@@ -86,12 +86,12 @@ impl Ups {
         ensures { result ≡ data_state_of max_age moment self.now }
     {
         let report = &self.report;
-        let is_fresh = moment.saturating_sub(report.heard) <= u64::from(max_age);
-        match (report.connected, report.dumped, report.ok && is_fresh) {
+        let is_stale = report.is_stale(moment, max_age);
+        match (report.connected, report.dumped, is_stale) {
             (false, _, _) => DataState::Lost,
             (true, false, _) => DataState::Awaited,
-            (true, true, true) => DataState::Good,
-            (true, true, false) => DataState::Stale,
+            (true, true, false) => DataState::Good,
+            (true, true, true) => DataState::Stale,
         }
     }
 
@@ -254,10 +254,10 @@ impl Ups {
         let was = self.data_state(now.max_age, now.seconds);
         let outcome = self.apply(u, now.seconds, piece, count, notes)?;
         if settle(u, outcome, tracking) {
-            self.count_refused();
-            notes.extend(Some(Note::LineRefused(u, fault_of(outcome))));
+            self.refuse(u, outcome, notes);
         }
-        notes.extend(data_note(u, was, self.data_state(now.max_age, now.seconds)));
+        let is = self.data_state(now.max_age, now.seconds);
+        note_data(u, was, is, notes);
         Ok(())
     }
 
@@ -296,11 +296,15 @@ impl Ups {
         Ok(outcome)
     }
 
-    /// A line of its driver is refused. The count stops at its greatest number.
-    fn count_refused(&mut self)
-        ensures { self.new ≡ with_faulty_line self.old }
+    /// A line of its driver is refused, which is counted and noted. The count stops at its greatest
+    /// number.
+    #[inline(never)]
+    fn refuse(&mut self, u: UpsId, outcome: LineOutcome, notes: &mut Notes)
+        ensures counted { self.new ≡ with_faulty_line self.old }
+        ensures noted { notes.new ≡ with_note (Some (LineRefused u (fault_of outcome))) notes.old }
     {
         self.faulty = self.faulty.saturating_add(1);
+        notes.extend(Some(Note::LineRefused(u, fault_of(outcome))));
     }
 }
 

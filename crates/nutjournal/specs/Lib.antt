@@ -1,3 +1,4 @@
 pub mod Tally
 pub mod Tallies
 pub mod LogBuffer
+pub mod Drivers

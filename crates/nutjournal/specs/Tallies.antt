@@ -1,5 +1,5 @@
 -- The lines of a second, by what they are of.
-use Rattle.std.specs.Prelude.{◌≡◌, ℕ, ◌++◌, Bool, false, List, [], ◌∷◌}
+use Rattle.std.specs.Prelude.{◌≡◌, ℕ, ◌++◌, Bool, false, true, map, List, [], ◌∷◌}
 use Rattle.std.specs.Prelude.{if◌then◌else◌, ◌==◌, ◌&&◌, nat_lt, length, slice_get, slice_set, unwrap_or, fold, Option, Some}
 use Rattle.std.specs.List.{position_or_len}
 use Rattle.std.specs.Option.{option_map_or}
@@ -10,7 +10,7 @@ use Rattle.nutjournal.specs.declared.tallies.Of.{Of}
 use Rattle.nutjournal.specs.declared.tallies.Of.TheVariants.{Client, Ups}
 use Rattle.nutjournal.specs.declared.tallies.Tallies.{Tallies}
 use Rattle.nutjournal.specs.declared.tallies.TheConstants.{ADDRESS_COUNT}
-use Rattle.nutjournal.specs.Tally.{after_line, nothing}
+use Rattle.nutjournal.specs.Tally.{after_line, after_second, nothing}
 
 abbrev pub fresh : Tally
 fresh = record { losses = 0; logged = 0; more = nothing }
@@ -44,6 +44,15 @@ after_line_of (Client address) kind all =
       clients = slice_set all.clients (place_of address.now all.addresses.items)
           (after_line (tally_of (Client address) all) kind);
     }
+
+-- Once a second begins, all addresses have room again. What was counted of them is reported, and
+-- of a driver that was lost too often once a minute begins.
+abbrev pub after_second_of : Bool → Tallies → Tallies
+after_second_of is_minute all = record {
+  upses = map (λ y. after_second y is_minute) all.upses;
+  addresses = record { items = [] };
+  clients = map (λ y. after_second y true) all.clients;
+}
 
 -- These tallies come of those by some lines alone, each of which is logged or counted.
 pub record LeadsTo (old new : Tallies) : Type 0 where

@@ -1,7 +1,10 @@
 -- Which lines of a UPS, or of a client's address, are logged, and which are counted.
 use Rattle.std.specs.Prelude.{◌≡◌, ℕ, ◌+◌, ◌-◌, ◌^◌, ◌<◌, ◌==◌, ◌&&◌, ◌||◌, Bool, List, [], ◌∷◌}
 use Rattle.std.specs.Prelude.{◌≢◌, ◌/◌, true, Option, Some, None, if◌then◌else◌, not, nat_lt, min, max, ◌≤◌, length, slice_index, slice_set}
+use Rattle.std.specs.Prelude.{nat_eq}
 use Rattle.std.specs.List.{repeat}
+use Rattle.std.specs.Option.{option_eq}
+use Rattle.nutjournal.specs.declared.tally.Count.{Count}
 use Rattle.nutjournal.specs.declared.tally.Kind.{Kind}
 use Rattle.nutjournal.specs.declared.tally.Kind.TheVariants as kinds
 use Rattle.nutjournal.specs.declared.tally.Tally.{Tally}
@@ -89,6 +92,20 @@ after_second y is_minute =
       logged = 0;
       more = if is_reported y is_minute then nothing else y.more;
     }
+
+-- Of what no note says, what is new is logged at once, or once a minute.
+abbrev pub is_counted : ℕ → Bool → ℕ → Count → Bool
+is_counted count is_held minute was =
+    nat_lt was.logged count && not (is_held && option_eq nat_eq was.minute (Some minute))
+
+abbrev pub more_counted : ℕ → Bool → ℕ → Count → Option ℕ
+more_counted count is_held minute was =
+    if is_counted count is_held minute was then Some (count - was.logged) else None
+
+abbrev pub after_count : ℕ → Bool → ℕ → Count → Count
+after_count count is_held minute was =
+    if is_counted count is_held minute was
+    then record { logged = count; minute = Some minute } else was
 
 -- The tally after lines of these kinds, how many of one kind were logged, and how many there were.
 abbrev pub after_lines : Tally → List Kind → Tally

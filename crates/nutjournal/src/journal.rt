@@ -1,11 +1,14 @@
 //! The journal of the UPSs and their clients while they are served.
-ghost use Rattle.std.specs.Prelude.{◌≡◌, Some};
-ghost use Rattle.nutjournal.specs.Tallies.{LeadsTo};
+ghost use Rattle.std.specs.Prelude.{◌≡◌, ◌≢◌, IfOk, Some};
+ghost use Rattle.nutjournal.specs.Tally.{begins_minute};
+ghost use Rattle.nutjournal.specs.Tallies.{LeadsTo, after_second_of};
 
+use crate::drivers::{Driver, Drivers};
 use crate::log_buffer::{INFO, LogBuffer, WARNING};
 use crate::tallies::{Of, Tallies};
-use crate::tally::{Kind, MINUTE, begins_minute};
-use nutcore::{DataState, Deed, DriverFault, MaxAge, Note, Server, UpsId, Verb, Who};
+use crate::tally::{Count, Kind, MINUTE, begins_minute};
+use nutcommand::Said;
+use nutcore::{DataState, Deed, MaxAge, Note, Server, UpsId, Verb, Who};
 use nutwords::UpsName;
 use std::alloc::AllocError;
 use std::fmt::{self, Display, Formatter, Write};
@@ -14,22 +17,6 @@ use std::mem;
 
 /// What is logged of data, by the number of their state.
 const DATA: [Kind; 4] = [Kind::Lost, Kind::Awaited, Kind::Good, Kind::Stale];
-
-/// The drivers, by the places of their UPSs. Each place is a byte.
-type Drivers = [Driver; 256];
-
-/// What was noted of a driver, and wasn't logged yet.
-#[derive(Clone, Copy, Default)]
-struct Driver {
-    /// How many of its lines were refused, and why the last one was.
-    refused: (u64, Option<DriverFault>),
-    /// The system's number of the error by which it couldn't be connected to.
-    error: Option<i32>,
-    /// The state of its data, as it was noted last.
-    state: DataState,
-    /// The second in which it connected, while it hasn't reported everything.
-    awaited: Option<u64>,
-}
 
 /// What is counted beside the server's notes, and whether a line of it comes once a minute at most.
 const COUNTED: [(&str, bool); 3] = [
@@ -48,9 +35,7 @@ pub struct Journal {
     drivers: Drivers,
     /// The greatest age, in seconds.
     max_age: u64,
-    /// The counts that were logged, and the minutes in which they were.
-    counts: [u64; 3],
-    minutes: [Option<u64>; 3],
+    counts: [Count; 3],
     is_record_cut: bool,
 }
 
@@ -65,7 +50,9 @@ impl Journal {
         rt: &HostRuntime,
         has_priorities: bool,
         max_age: MaxAge,
-    ) -> Result<Journal, AllocError> {
+    ) -> Result<Journal, AllocError>
+        ensures { IfOk result (λ journal. journal.max_age ≡ max_age) }
+    {
         let mut log = LogBuffer::new(rt, has_priorities)?;
         let line = "standard error may stop the server: a terminal that its user may not open";
         log.add_if(log.may_wait(rt), WARNING, None, &line);
@@ -75,8 +62,7 @@ impl Journal {
             tallies: Tallies::new(),
             drivers: [Driver::default(); 256],
             max_age: u64::from(max_age.seconds()),
-            counts: [0; 3],
-            minutes: [None; 3],
+            counts: [Count::default(); 3],
             is_record_cut: false,
         })
     }
@@ -102,6 +88,9 @@ impl Journal {
         // Within a second the tallies only change by lines, each of which is logged or counted.
         ensures goes_on { self.old.moment ≡ Some server.now.state.moment
             → LeadsTo self.old.tallies self.new.tallies }
+        ensures begins { self.old.moment ≢ Some server.now.state.moment
+            → LeadsTo (after_second_of (begins_minute self.old.moment server.now.state.moment)
+            self.old.tallies) self.new.tallies }
     {
         let moment = Some(server.current_moment());
         let was = mem::replace(&mut self.moment, moment);
@@ -109,6 +98,7 @@ impl Journal {
             let is_minute = begins_minute(was, server.current_moment());
             self.log_drivers(server, is_minute, error_of);
             self.log_counts(server.current_moment() / MINUTE, counts, is_record_cut);
+            self.tallies.next_second(is_minute);
         } else if server.notes().is_empty() {
             return;
         }
@@ -129,33 +119,31 @@ impl Journal {
     )
         requires { E.IsAlwaysCallable error_of }
         ensures moment { self.new.moment ≡ self.old.moment }
+        ensures tallies { self.new.tallies ≡ self.old.tallies }
     {
-        let (log, drivers) = (&mut self.log, &mut self.drivers);
-        let tallies = &mut self.tallies;
-        let moment = server.current_moment();
+        let (log, drivers, tallies) = (&mut self.log, &mut self.drivers, &self.tallies);
         for place in 0..server.ups().len() {
             let u = UpsId { place: place as u8 };
             let (ups, driver) = (server.ups().name(u), &mut drivers[place]);
-            let more = tallies.upses[place].next_second(is_minute);
+            let more = tallies.upses[place].reported(is_minute);
             if let Some(priority) = more.priority() {
                 let (state, _, _) = DATA[driver.state as usize].row();
                 let status = server.status(u).unwrap_or(b"").escape_ascii();
                 let line = format_args!("more lines: {more}; now {state}, status {status}");
                 log.add(priority, ups, &line);
             }
-            let (count, fault) = mem::take(&mut driver.refused);
+            let moment = server.current_moment();
+            let news = driver.next_second(error_of(u), moment, self.max_age);
+            let (count, fault) = news.refused;
             let line = format_args!("lines of the driver refused: {count}, the last one");
             match fault {
                 Some(fault) => log.add(INFO, ups, &format_args!("{line}: {fault}")),
                 None => log.add_if(count > 0, INFO, ups, &format_args!("{line}: no such order")),
             }
-            let was = mem::replace(&mut driver.error, error_of(u));
-            let due = driver.error.is_some() && driver.error != was;
-            let error = Error::from_raw_os_error(driver.error.unwrap_or(0));
-            log.add_if(due, WARNING, ups, &format_args!("cannot connect: {error}"));
-            let limit = moment.saturating_sub(self.max_age);
-            let late = driver.awaited.take_if(|since| *since < limit);
-            log.add_if(late.is_some(), WARNING, ups, &"data stale");
+            let error = Said(Error::from_raw_os_error(news.error.unwrap_or(0)));
+            let line = format_args!("cannot connect: {error}");
+            log.add_if(news.error.is_some(), WARNING, ups, &line);
+            log.add_if(news.is_late, WARNING, ups, &"data stale");
         }
     }
 
@@ -163,22 +151,20 @@ impl Journal {
     /// the end of the record.
     fn log_counts(&mut self, minute: u64, counts: [u64; 3], is_record_cut: bool)
         ensures moment { self.new.moment ≡ self.old.moment }
+        ensures tallies { self.new.tallies ≡ self.old.tallies }
     {
-        let (log, tallies) = (&mut self.log, &mut self.tallies);
+        let (log, tallies) = (&mut self.log, &self.tallies);
         for place in 0..=tallies.addresses.len() {
-            let more = tallies.clients[place].next_second(true);
+            let more = tallies.clients[place].reported(true);
             let address = tallies.address(place).escape_ascii();
             if let Some(priority) = more.priority() {
                 let line = format_args!("more lines of {address}: {more}");
                 log.add(priority, None, &line);
             }
         }
-        tallies.addresses.clear();
         for place in 0..COUNTED.len() {
             let (what, is_held) = COUNTED[place];
-            let count = counts[place].saturating_sub(self.counts[place]);
-            if count > 0 && !(is_held && self.minutes[place] == Some(minute)) {
-                (self.counts[place], self.minutes[place]) = (counts[place], Some(minute));
+            if let Some(count) = self.counts[place].more(counts[place], is_held, minute) {
                 log.add(WARNING, None, &format_args!("{what}: {count}"));
             }
         }
@@ -207,12 +193,9 @@ impl Journal {
         match note {
             Note::Data(u, state) => {
                 let driver = &mut self.drivers[u.place as usize];
-                let was = mem::replace(&mut driver.state, *state);
-                let is_awaited = *state == DataState::Awaited;
-                driver.awaited = is_awaited.then_some(server.current_moment());
                 // A driver may report all, and only then that it is right: it wasn't stale between.
-                let is_new = was == DataState::Awaited && *state == DataState::Stale;
-                if !is_new || !become_good(server.notes(), *u) {
+                let is_first = driver.turn(*state, server.current_moment());
+                if !is_first || !become_good(server.notes(), *u) {
                     let kind = DATA[*state as usize];
                     self.log(Of::Ups(u.place), kind, name(u), &kind.row().0);
                 }
@@ -226,8 +209,7 @@ impl Journal {
             // The loss of a driver has a line of its own; a status that it takes away has none.
             Note::StatusChanged(_, None) => {}
             Note::LineRefused(u, fault) => {
-                let driver = &mut self.drivers[u.place as usize];
-                driver.refused = (driver.refused.0.saturating_add(1), *fault);
+                self.drivers[u.place as usize].refuse(*fault);
             }
             Note::LoggedIn(u, who) => {
                 let (of, who) = (Of::Client(&who.address), Shown(who));

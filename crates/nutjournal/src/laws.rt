@@ -5,8 +5,8 @@ ghost use Rattle.nutjournal.specs.declared.log_buffer.TheConstants.{LOG_LIMIT};
 ghost use Rattle.nutjournal.specs.declared.tallies.TheConstants.{ADDRESS_COUNT};
 ghost use Rattle.nutjournal.specs.declared.tally.TheConstants.{ALARM_LIMIT, LINE_LIMIT, LOSS_LIMIT, MINUTE, PLAIN_LIMIT};
 
-/// The most lines in a second of a UPS or of an address, and how many addresses have a count of their
-/// own; how often a driver is lost in a minute; and the most bytes of the journal that wait.
+/// The most lines in a second of a UPS or an address, the addresses with a count of their own, the
+/// losses logged in a minute, and the most bytes that wait.
 pub fn numbers()
     ensures lines { LINE_LIMIT ≡ 10 }
     ensures alarms { ALARM_LIMIT ≡ 9 }
@@ -25,7 +25,7 @@ pub fn each_line_is_logged_or_counted()
 {}
 
 /// In each minute the first two losses of a driver are logged, within the lines of their second. A
-/// minute counts its own losses only, whatever seconds the clock skipped before.
+/// minute counts only its own losses, whatever seconds the clock skipped.
 pub fn losses_are_logged_in_their_minute()
     ensures { LossesAreLoggedInTheirMinute }
 {}

@@ -2,6 +2,7 @@
 //! way to standard error.
 #![tactic(auto)]
 
+mod drivers;
 mod journal;
 pub mod laws;
 mod log_buffer;

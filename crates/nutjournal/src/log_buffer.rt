@@ -1,7 +1,7 @@
 //! The lines of the journal on their way to standard error. It may be a pipe or a terminal that
 //! nobody reads, so no write waits.
 ghost use Rattle.std.specs.Prelude.{◌≡◌, [], IfOk};
-ghost use Rattle.nutjournal.specs.LogBuffer.{after_line};
+ghost use Rattle.nutjournal.specs.LogBuffer.{IsWritten, OneLineMore, after_line};
 
 use arrayvec::ArrayString;
 use libc::STDERR_FILENO;
@@ -69,14 +69,16 @@ impl LogBuffer {
 
     /// Adds a line of this priority, about the UPS if there is one. A line that has no room is
     /// dropped and counted. So are those after it, until the count is logged. Takes no memory.
-    pub fn add<D: Display>(&mut self, priority: u8, ups: Option<&UpsName>, line: &D) {
+    pub fn add<D: Display>(&mut self, priority: u8, ups: Option<&UpsName>, line: &D)
+        ensures { OneLineMore self.old self.new }
+    {
         let mut text = ArrayString::<LINE_LIMIT>::new();
         if self.has_priorities {
             let _ = write!(text, "<{priority}>");
         }
         let name = ups.map_or(b"".as_slice(), |ups| ups.as_bytes());
         let colon = if name.is_empty() { "" } else { ": " };
-        let _ = writeln!(text, "upsd: {}{colon}{line}", name.escape_ascii());
+        let _ = write!(text, "upsd: {}{colon}{line}", name.escape_ascii());
         self.add_line(text.as_bytes());
     }
 
@@ -87,12 +89,13 @@ impl LogBuffer {
         }
     }
 
-    /// Adds a line, or counts it as dropped.
+    /// Adds a line with its LF, or counts it as dropped.
     fn add_line(&mut self, line: &[u8])
         ensures { self.new ≡ after_line line.now self.old }
     {
-        if self.dropped == 0 && line.len() <= self.waiting.free() {
+        if self.dropped == 0 && line.len() < self.waiting.free() {
             self.waiting.push(line);
+            self.waiting.push(b"\n");
         } else {
             self.dropped = self.dropped.saturating_add(1);
         }
@@ -106,17 +109,25 @@ impl LogBuffer {
                 let line = format_args!("{count} lines of the journal were dropped");
                 self.add_if(count > 0, INFO, None, &line);
             }
-            let count = self.waiting.len().min(PIECE_LIMIT);
-            if count == 0 || !takes_bytes() {
+            if self.waiting.len() == 0 || !takes_bytes() {
                 return;
             }
-            let piece = &self.waiting.bytes()[..count];
-            let written = match &mut self.terminal {
-                Some(terminal) => terminal.write(piece),
-                None => rt.stderr().write(piece),
-            };
-            self.waiting.drop_front(written.unwrap_or(0));
+            match &mut self.terminal {
+                Some(terminal) => write_piece(&mut self.waiting, terminal),
+                None => write_piece(&mut self.waiting, &mut rt.stderr()),
+            }
         }
+    }
+}
+
+/// Writes a piece of what waits. What the writer takes waits no longer, and all else does.
+fn write_piece<W: Write>(waiting: &mut ByteQueue<LOG_LIMIT>, out: &mut W)
+    ensures { IsWritten W.contents waiting.old waiting.new out.old out.new }
+{
+    let count = waiting.len().min(PIECE_LIMIT);
+    match out.write(&waiting.bytes()[..count]) {
+        Ok(taken) => waiting.drop_front(taken),
+        Err(_) => {}
     }
 }
 

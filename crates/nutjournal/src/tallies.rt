@@ -1,7 +1,7 @@
 //! The tallies of all UPSs and addresses.
-ghost use Rattle.std.specs.Prelude.{◌≡◌, ◌≤◌};
-ghost use Rattle.nutjournal.specs.Tally.{is_logged};
-ghost use Rattle.nutjournal.specs.Tallies.{after_line_of, is, place_of, tally_of, with_address};
+ghost use Rattle.std.specs.Prelude.{◌≡◌, ◌≤◌, map};
+ghost use Rattle.nutjournal.specs.Tally.{after_second, is_logged};
+ghost use Rattle.nutjournal.specs.Tallies.{after_line_of, after_second_of, is, place_of, tally_of, with_address};
 
 use crate::tally::{Kind, Tally};
 use arrayvec::ArrayVec;
@@ -51,6 +51,15 @@ impl Tallies {
         }
     }
 
+    /// A second begins, perhaps the first one of a minute.
+    pub fn next_second(&mut self, is_minute: bool)
+        ensures { self.new ≡ after_second_of is_minute self.old }
+    {
+        begin_second(&mut self.upses, is_minute);
+        begin_second(&mut self.clients, true);
+        self.addresses.clear();
+    }
+
     /// The place of an address, which is added where it has none and there is room.
     fn place_for(&mut self, address: &Address) -> usize
         ensures place { result ≡ place_of address.now self.old.addresses.items }
@@ -95,4 +104,13 @@ fn is(that: &Option<Address>, address: &Address) -> bool
     ensures { result ≡ is address.now that.now }
 {
     matches!(that, Some(that) if that.as_bytes() == address.as_bytes())
+}
+
+/// A second begins for each of these tallies.
+fn begin_second(tallies: &mut [Tally], is_minute: bool)
+    ensures { tallies.new ≡ map (λ y. after_second y is_minute) tallies.old }
+{
+    for tally in tallies.iter_mut() {
+        *tally = tally.next_second(is_minute);
+    }
 }

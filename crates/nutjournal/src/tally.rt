@@ -1,7 +1,7 @@
 //! How many lines of a UPS, or of the clients of an address, are logged in a second. All more are
 //! counted.
 ghost use Rattle.std.specs.Prelude.{◌≡◌};
-ghost use Rattle.nutjournal.specs.Tally.{after_line, after_second, begins_minute, is_logged, is_restless, limit_of, reported};
+ghost use Rattle.nutjournal.specs.Tally.{after_count, after_line, after_second, begins_minute, is_logged, is_restless, limit_of, more_counted, reported};
 
 use crate::log_buffer::{CRITICAL, INFO, NOTICE, WARNING};
 use std::fmt::{self, Formatter, Write};
@@ -117,18 +117,29 @@ impl Tally {
         self.losses > LOSS_LIMIT
     }
 
-    /// A second begins, perhaps the first one of a minute. The lines that were counted, where they
-    /// are to be reported now: those of a driver that was lost too often are once a minute.
-    pub fn next_second(&mut self, is_minute: bool) -> Tally
-        ensures reported { result.more ≡ reported self.old is_minute }
-        ensures after { self.new ≡ after_second self.old is_minute }
+    /// The lines that were counted, where they are to be reported now: those of a driver that was
+    /// lost too often are once a minute.
+    pub fn reported(&self, is_minute: bool) -> Tally
+        ensures { result.more ≡ reported self.now is_minute }
     {
-        let (was, zeros) = (*self, Tally::default());
-        let is_reported = is_minute || !was.is_restless();
-        *self = if is_reported { zeros } else { was };
-        self.losses = if is_minute { 0 } else { was.losses };
-        self.logged = 0;
-        if is_reported { was } else { zeros }
+        if is_minute || !self.is_restless() {
+            *self
+        } else {
+            Tally::default()
+        }
+    }
+
+    /// The tally of the next second, perhaps the first one of a minute. What is reported is counted
+    /// no longer.
+    pub fn next_second(self, is_minute: bool) -> Tally
+        ensures { result ≡ after_second self is_minute }
+    {
+        let is_reported = is_minute || !self.is_restless();
+        Tally {
+            losses: if is_minute { 0 } else { self.losses },
+            logged: 0,
+            more: if is_reported { [0; 13] } else { self.more },
+        }
     }
 
     /// The priority of the most urgent line that was counted, if one was.
@@ -151,5 +162,28 @@ impl fmt::Display for Tally {
             }
         }
         Ok(())
+    }
+}
+
+/// A count of what no note says: how many were logged, and the minute in which some were.
+#[derive(Clone, Copy, Default)]
+pub struct Count {
+    logged: u64,
+    minute: Option<u64>,
+}
+
+impl Count {
+    /// How many there are since some were logged, where that is logged now: exactly where there are
+    /// some, and, of what is logged once a minute, none were logged in this one.
+    pub fn more(&mut self, count: u64, is_held: bool, minute: u64) -> Option<u64>
+        ensures more { result ≡ more_counted count is_held minute self.old }
+        ensures after { self.new ≡ after_count count is_held minute self.old }
+    {
+        if count <= self.logged || is_held && self.minute == Some(minute) {
+            return None;
+        }
+        let more = count - self.logged;
+        (self.logged, self.minute) = (count, Some(minute));
+        Some(more)
     }
 }

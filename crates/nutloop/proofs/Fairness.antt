@@ -1,11 +1,20 @@
--- Everybody has a turn between two looks, and turns are few.
-use Rattle.std.proofs.Common.{◌≡◌, ◌⊎◌, ◌+◌, ◌<◌, ◌≤◌, ℕ, Bool, true, false, List, [], ◌∷◌, length, refl, sym, subst, ap, ◌∙◌, inl, inr, arith}
+-- Everybody has a turn between two looks, turns are few, and nobody who is ready is slept over.
+use Rattle.std.proofs.Common.{◌≡◌, ◌⊎◌, ◌+◌, ◌<◌, ◌≤◌, ℕ, Bool, true, false, List, [], ◌∷◌, length, Option, Some, None, refl, sym, subst, ap, ◌∙◌, inl, inr, arith}
 use Rattle.std.specs.Prelude.{◌&&◌, not, nat_lt}
+use Rattle.nutcore.specs.Recording.{Recorded}
 use Rattle.nutloop.specs.declared.over_mio.pass.Pass.{Pass}
 use Rattle.nutloop.specs.declared.over_mio.pass.Stop.{Stop}
 use Rattle.nutloop.specs.declared.over_mio.pass.TheConstants.{STOPS, TURNS_PER_LOOK}
-use Rattle.nutloop.specs.Pass.{HasTurn, IsOver, WasVisited, again, fresh, goes_on}
-use Rattle.nutloop.specs.Fairness.{EverybodyHasATurn, GoThrough, HadTurn, HasNext, Turn, WasUnready}
+use Rattle.nutloop.specs.Pass.{HasNext, HasTurn, IsOver, WasVisited, again, fresh, goes_on}
+use Rattle.nutloop.specs.Sockets.{Passing, Told, pass_of}
+use Rattle.nutloop.specs.Turn.{IsTurn, LoopState}
+use Rattle.nutloop.specs.Serving.{Running}
+use Rattle.nutloop.specs.Fairness.{EverybodyHasATurn, FromLookToLook, HadTurn, IsFirst, IsNext, Turn, WasUnready, WithoutALook, turns_in}
+
+-- Turns of peers, one after another, without a look.
+abbrev GoThrough : Pass → List Turn → Pass → Type 0
+GoThrough old [] new = new ≡ old
+GoThrough old (t ∷ ts) new = HasNext t.may old t.visited t.pass × GoThrough t.pass ts new
 
 -- At the beginning of a pass no stop was visited.
 unvisited : (pass : Pass) (s : Stop) → WasVisited (again pass) s → ⊥
@@ -83,8 +92,76 @@ counted_all old (t ∷ ts) last is (next, go) =
     let now = counted_next t old is next in
     omega (arith, now.0, counted_all t.pass ts last now.1 go)
 
-pub everybody_has_a_turn : EverybodyHasATurn
-everybody_has_a_turn = record {
-  each = λ ts last over may s go ends. each_has ts last over may s (may s) refl go ends;
-  few = λ ts last go. omega (arith, counted_all fresh ts last (record { within = omega arith; few = omega arith }) go);
-}
+-- Who is visited is told by a turn in the pass.
+abbrev IsTold : Pass → Type 0
+IsTold pass = pass.had_turn ≡ false → pass.next ≡ 0
+
+had_by : (t : Turn) (old : Pass) → HasNext t.may old t.visited t.pass → t.pass.had_turn ≡ true
+had_by t old (inl turn) = turn.had
+had_by t old (inr (mid, over, on, turn)) = turn.had
+
+told_by : (t : Turn) (old : Pass) → HasNext t.may old t.visited t.pass → IsTold t.pass
+told_by t old next = λ none. cc (none, had_by t old next)
+
+told_all : (old : Pass) (ts : List Turn) (last : Pass) → IsTold old → GoThrough old ts last → IsTold last
+told_all old [] last is go = subst IsTold (sym go) is
+told_all old (t ∷ ts) last is (next, go) = told_all t.pass ts last (told_by t old next) go
+
+nobody_ready : (may : Stop → Bool) (pass : Pass) (s : Stop) (ready : Bool) → may s ≡ ready → pass.next ≡ 0 → IsOver may pass pass → may s ≡ false
+nobody_ready may pass s false is none over = is
+nobody_ready may pass s true is none over = absurd (unmade (over.nobody s is))
+  where
+    unmade : WasVisited pass s → ⊥
+    unmade h = omega (arith, none, h)
+
+-- The turns of serving are such turns.
+some_is : {A : Type 0} (x y : A) (o : Option A) → o ≡ Some x → o ≡ Some y → x ≡ y
+some_is x y o h k = cc (h, k)
+
+keeps_pass : (old new : LoopState) (t : IsTurn old new) (is : Passing) → t.mid.passing ≡ Some is → pass_of new.sockets.passing ≡ Some is.pass
+keeps_pass old new t is found = t.row.does.reported.pass ∙ t.row.called.pass ∙ ap pass_of found
+
+module _ {S R : Type 0} (told : S → Told) (holds : R → Recorded) where
+  -- How far the sockets have come.
+  abbrev IsAt : Running S R → Pass → Type 0
+  IsAt r pass = pass_of (told r.sockets).passing ≡ Some pass
+
+  record Reaches (old : Pass) (ts : List Turn) (new : Running S R) : Type 0 where
+    last : Pass
+    at : IsAt new last
+    go : GoThrough old ts last
+
+  go_on : (old : Running S R) (pass : Pass) (ts : List (Option Turn)) (new : Running S R) → IsAt old pass → WithoutALook told holds old ts new → Reaches pass (turns_in ts) new
+  go_on old pass [] new at same = record { last = pass; at = subst (λ (r : Running S R). IsAt r pass) (sym same) at; go = refl }
+  go_on old pass (None ∷ ts) new at (mid, next, rest) =
+      let same : next.is.pass ≡ pass = next.goes_on.1 ∙ some_is next.was.pass pass (pass_of (told old.sockets).passing) (ap pass_of next.before) at in
+      go_on mid pass ts new (keeps_pass _ _ next.turn next.is next.found ∙ ap (λ p. Some p) same) rest
+  go_on old pass (Some t ∷ ts) new at (mid, next, rest) =
+      let was : next.was.pass ≡ pass = some_is next.was.pass pass (pass_of (told old.sockets).passing) (ap pass_of next.before) at in
+      let is : t.pass ≡ next.is.pass = next.goes_on.1 in
+      let later = go_on mid t.pass ts new (keeps_pass _ _ next.turn next.is next.found ∙ ap (λ p. Some p) (sym is)) rest in
+      record { last = later.last; at = later.at; go = (subst (λ (p : Pass). HasNext t.may p t.visited t.pass) was next.goes_on.3, later.go) }
+
+  from_look : (old mid : Running S R) (first : Option Turn) (later : List (Option Turn)) (new : Running S R) → IsFirst told holds old first mid → WithoutALook told holds mid later new → Reaches fresh (turns_in (first ∷ later)) new
+  from_look old mid None later new first rest =
+      go_on mid fresh later new (keeps_pass _ _ first.turn first.is first.found ∙ ap (λ p. Some p) first.begins) rest
+  from_look old mid (Some t) later new first rest =
+      let after = go_on mid t.pass later new (keeps_pass _ _ first.turn first.is first.found ∙ ap (λ p. Some p) (sym first.begins.1)) rest in
+      record { last = after.last; at = after.at; go = (inl first.begins.3, after.go) }
+
+  -- The pass of a look is the one that the turns before it reached.
+  reached : (old : Running S R) (turns : List Turn) (new : Running S R) (looks : FromLookToLook told holds old turns new) → GoThrough fresh turns looks.is.pass
+  reached old turns new looks =
+      let all = from_look old looks.mid looks.first looks.later new looks.begins looks.goes_on in
+      let same : all.last ≡ looks.is.pass = some_is all.last looks.is.pass (pass_of (told new.sockets).passing) all.at (ap pass_of looks.before) in
+      subst (λ (ts : List Turn). GoThrough fresh ts looks.is.pass) (sym looks.all) (subst (λ (p : Pass). GoThrough fresh (turns_in (looks.first ∷ looks.later)) p) same all.go)
+
+  pub everybody_has_a_turn : EverybodyHasATurn told holds
+  everybody_has_a_turn = record {
+    each = λ old new turns looks s.
+        each_has turns looks.is.pass looks.is.pass (looks.is.may new.server.state) s (looks.is.may new.server.state s) refl (reached old turns new looks) looks.over;
+    few = λ old new turns looks. omega (arith, counted_all fresh turns looks.is.pass (record { within = omega arith; few = omega arith }) (reached old turns new looks));
+    awake = λ old new turns looks s idle.
+        nobody_ready (looks.is.may new.server.state) looks.is.pass s (looks.is.may new.server.state s) refl
+        (told_all fresh turns looks.is.pass (λ none. refl) (reached old turns new looks) idle) looks.over;
+  }

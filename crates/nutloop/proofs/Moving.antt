@@ -18,7 +18,7 @@ use Rattle.nutcore.specs.DriverHistory.{has_driver}
 use Rattle.nutloop.specs.declared.sockets.Ready.{Ready}
 use Rattle.nutloop.specs.declared.sockets.Ready.TheVariants.{Nothing, Tick, Newcomer, Id, DriverUp, Read, Write}
 use Rattle.nutloop.specs.declared.sockets.Call.{Call}
-use Rattle.nutloop.specs.declared.sockets.Call.TheVariants.{Readied, Accepted, Named, Refused, Gave, Waits, Ended, Wrote, Shut, Happens}
+use Rattle.nutloop.specs.declared.sockets.Call.TheVariants.{Readied, Accepted, Named, Refused, Gave, Waits, Ended, Wrote, Shut}
 use Rattle.nutloop.specs.declared.turns.TheConstants.{DRIVER_READ_LIMIT}
 use Rattle.nutcore.specs.DriverOrders.{owed_to_driver}
 use Rattle.nutloop.specs.Turn.{nobody, accepts, reads, Answer, unasked, newcomer, gave, later, ended, took, failed, ask, write_of, room_at, is_finished_at, MayAnswer, answered, row_events, read_of_client, read_of_driver, write_to_client, write_to_driver, opening, calls_behind, calls_behind_all, loses_driver}
@@ -32,7 +32,6 @@ pub record Fit (g : Call → List ℕ) (f : ServerState → Event → List ℕ) 
   pub waits : (p : Peer) (most : ℕ) → g (Waits p most) ≡ []
   pub ends : (p : Peer) (most : ℕ) → g (Ended p most) ≡ []
   pub shut : (p : Peer) → g (Shut p) ≡ []
-  pub happens : (e : Event) → g (Happens e) ≡ []
   pub ups : (s : ServerState) (u : UpsId) → f s (event.DriverUp u) ≡ []
   pub downs : (s : ServerState) (u : UpsId) → f s (event.DriverDown u) ≡ []
   pub ticks : (s : ServerState) (n : ℕ) → f s (event.Tick n) ≡ []
@@ -55,8 +54,8 @@ one_event f s mid e (o ∷ os) r = append-nil (f s e)
 
 -- No bytes are in the calls after an event.
 behind_open : (g : Call → List ℕ) (f : ServerState → Event → List ℕ) → Fit g f → (a : List ℕ) (o : Outcome) → flat_map g (calls_behind (event.Open a) o) ≡ []
-behind_open g f fit a outcome.Done = refl
-behind_open g f fit a (outcome.Fed n) = refl
+behind_open g f fit a outcome.Done = one_call g Refused [] fit.refused
+behind_open g f fit a (outcome.Fed n) = one_call g Refused [] fit.refused
 behind_open g f fit a (outcome.Opened c) = one_call g (Named c) [] (fit.named c)
 behind_open g f fit a (outcome.Refused r) = one_call g Refused [] fit.refused
 
@@ -86,7 +85,7 @@ pub behind_all : (g : Call → List ℕ) (f : ServerState → Event → List ℕ
 behind_all g f fit [] os = refl
 behind_all g f fit (e ∷ es) [] = refl
 behind_all g f fit (e ∷ es) (o ∷ os) =
-    ap (λ v. v ++ flat_map g (calls_behind e o ++ calls_behind_all es os)) (fit.happens e) ∙ flat_map-append g (calls_behind e o) (calls_behind_all es os) ∙ ap (λ v. v ++ flat_map g (calls_behind_all es os)) (behind g f fit e o) ∙ behind_all g f fit es os
+    flat_map-append g (calls_behind e o) (calls_behind_all es os) ∙ ap (λ v. v ++ flat_map g (calls_behind_all es os)) (behind g f fit e o) ∙ behind_all g f fit es os
 
 -- What wasn't asked isn't answered.
 of_unasked : (answer : Answer) → MayAnswer nobody answer → (P : Answer → Type 0) → P unasked → P answer

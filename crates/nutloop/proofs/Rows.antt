@@ -3,139 +3,172 @@ use Rattle.std.proofs.Common.{◌≡◌, ℕ, suc, Bool, true, false, eqb, List,
 use Rattle.std.specs.Prelude.{◌-◌, ◌≤◌, is_some, Result, Ok, Err, if◌then◌else◌, replicate}
 use Rattle.std.specs.Option.{option_map, option_map_or}
 use Rattle.std.specs.Result.{result_unwrap_or}
-use Rattle.std.proofs.lemmas.Grind.{flat_map-append}
 use Rattle.std.proofs.lemmas.Bool.Decides.{nat_tests}
 use Rattle.std.proofs.lemmas.List.{length-replicate}
 use Rattle.nutusers.specs.declared.ups_list.UpsId.{UpsId}
 use Rattle.nutcore.specs.declared.event.Event.{Event}
-use Rattle.nutcore.specs.declared.event.Event.TheVariants.{Close}
+use Rattle.nutcore.specs.declared.event.Event.TheVariants as event
 use Rattle.nutcore.specs.declared.event.Outcome.{Outcome}
+use Rattle.nutcore.specs.declared.event.Outcome.TheVariants as outcome
 use Rattle.nutcore.specs.declared.event.Fault.{Fault}
 use Rattle.nutcore.specs.declared.event.Peer.{Peer}
 use Rattle.nutcore.specs.declared.event.Peer.TheVariants.{Client, Driver}
 use Rattle.nutcore.specs.declared.TheConstants.{HELD_LIMIT}
 use Rattle.nutcore.specs.declared.server.status.Standing.{Standing}
+use Rattle.nutcore.specs.Cost.{RunningServer}
+use Rattle.nutcore.specs.Notes.{notes_of}
+use Rattle.nutcore.specs.Recording.{Recorded, Continues}
 use Rattle.nutcore.specs.Session.{SessionState}
 use Rattle.nutcore.specs.Ups.{UpsState}
 use Rattle.nutcore.specs.Server.{ServerState, session, ups_at}
 use Rattle.nutcore.specs.Step.{Step, offered}
-use Rattle.nutcore.specs.Run.{Run}
 use Rattle.nutcore.specs.Calls.{room_of, standing_of, is_finished, owed_to, Reads, ReadsUps}
 use Rattle.nutcore.specs.DriverHistory.{has_driver}
+use Rattle.nutcore.specs.DriverOrders.{owed_to_driver}
 use Rattle.nutloop.specs.declared.sockets.Ready.{Ready}
 use Rattle.nutloop.specs.declared.sockets.Ready.TheVariants.{Read}
 use Rattle.nutloop.specs.declared.sockets.Call.{Call}
-use Rattle.nutloop.specs.declared.sockets.Call.TheVariants.{Readied, Happens}
+use Rattle.nutloop.specs.declared.sockets.Call.TheVariants.{Refused}
 use Rattle.nutloop.specs.declared.turns.TheConstants.{DRIVER_READ_LIMIT}
-use Rattle.nutloop.specs.Sockets.{Reported, event_in, events_in, GrowsBy, Grows, ReportsCall}
-use Rattle.nutcore.specs.DriverOrders.{owed_to_driver}
-use Rattle.nutloop.specs.Turn.{Ask, nobody, reads, writes, Answer, unasked, ask, read_of, write_of, MayAnswer, answered, row_events, end_of, calls_behind, calls_behind_all, Does, failures_by, IsRow}
+use Rattle.nutloop.specs.Sockets.{Told, Answers, Follows, IsFound, Readies, Reports}
+use Rattle.nutloop.specs.Turn.{Ask, nobody, reads, writes, Answer, unasked, ask, read_of, write_of, MayAnswer, answered, row_events, end_of, calls_behind, Does, failures_by, IsRow, IsTurn, LoopState, around}
 
-calls_nothing : (a : Option (List Call)) → GrowsBy a a []
-calls_nothing None = tt
-calls_nothing (Some xs) = sym (append-nil xs)
+pub follows_nothing : (a : Option (List Call)) → Follows a [] a
+follows_nothing None = tt
+follows_nothing (Some xs) = sym (append-nil xs)
 
-calls_join : (a b c : Option (List Call)) (x y : List Call) → GrowsBy a b x → GrowsBy b c y → GrowsBy a c (x ++ y)
-calls_join None None None x y h k = tt
-calls_join None None (Some zs) x y h k = absurd k
-calls_join None (Some ys) c x y h k = absurd h
-calls_join (Some xs) None None x y h k = tt
-calls_join (Some xs) None (Some zs) x y h k = absurd k
-calls_join (Some xs) (Some ys) None x y h k = tt
-calls_join (Some xs) (Some ys) (Some zs) x y h k = k ∙ ap (λ t. t ++ y) h ∙ append_assoc xs x y
+pub follows_joins : (a b c : Option (List Call)) (x y : List Call) → Follows a x b → Follows b y c → Follows a (x ++ y) c
+follows_joins None None None x y h k = tt
+follows_joins None None (Some zs) x y h k = absurd k
+follows_joins None (Some ys) c x y h k = absurd h
+follows_joins (Some xs) None None x y h k = tt
+follows_joins (Some xs) None (Some zs) x y h k = absurd k
+follows_joins (Some xs) (Some ys) None x y h k = tt
+follows_joins (Some xs) (Some ys) (Some zs) x y h k = k ∙ ap (λ t. t ++ y) h ∙ append_assoc xs x y
 
-pub grows_nothing : (a : Reported) → Grows a a []
-grows_nothing a = (calls_nothing a.answered, λ age events recorded. subst (a.records age) (sym (append-nil events)) recorded)
+pub answers_nothing : (a : Told) → Answers a [] a
+answers_nothing a = record { follows = follows_nothing a.calls; failures = refl; pass = refl }
 
-pub grows_joins : (a b c : Reported) (x y : List Call) → Grows a b x → Grows b c y → Grows a c (x ++ y)
-grows_joins a b c x y h k = (
-  calls_join a.answered b.answered c.answered x y h.0 k.0,
-  λ age events recorded. subst (c.records age) (append_assoc events (events_in x) (events_in y) ∙ ap (λ more. events ++ more) (sym (flat_map-append event_in x y)))
-      (k.1 age (events ++ events_in x) (h.1 age events recorded)),
-)
-
--- A call after one of which nothing is reported.
-pub logs_behind : {T E : Type 0} (a b c : Reported) (call : T → Call) (result : Result T E) → Grows a b [] → ReportsCall b c call result → ReportsCall a c call result
-logs_behind a b c call (Ok x) h k = grows_joins a b c [] (call x ∷ []) h k
-logs_behind a b c call (Err e) h k = grows_joins a b c [] [] h k
-
--- One event is reported and done, and then the call after it is made.
-pub does_one : {S : Type 0} (calls : S → Reported) (failures : S → ℕ) (e : Event) (o : Outcome) (old : ServerState) (sockets middle : S) (new : ServerState) (after : S)
-    → Grows (calls sockets) (calls middle) (Happens e ∷ []) → failures middle ≡ failures sockets
-    → Step old e o new → Grows (calls middle) (calls after) (calls_behind e o) → failures after ≡ failures middle
-    → Does calls failures (e ∷ []) old sockets new after
-does_one calls failures e o old sockets middle new after happens no_failure step reported count = record {
-  outcomes = o ∷ [];
-  run = (new, step, refl);
-  reported = subst (λ cs. Grows (calls sockets) (calls after) (Happens e ∷ cs)) (sym (append-nil (calls_behind e o)))
-      (grows_joins (calls sockets) (calls middle) (calls after) (Happens e ∷ []) (calls_behind e o) happens reported);
-  count = count ∙ no_failure;
+-- Calls after those of which some failed.
+pub reports_then : (count : ℕ → ℕ) (a b c : Told) (x y : List Call) → Reports count a x b → Answers b y c → Reports count a (x ++ y) c
+reports_then count a b c x y h k = record {
+  follows = follows_joins a.calls b.calls c.calls x y h.follows k.follows;
+  failures = k.failures ∙ h.failures;
+  pass = k.pass ∙ h.pass;
 }
 
--- One event is reported and done, after which no call is made.
-pub does_quietly : {S : Type 0} (calls : S → Reported) (failures : S → ℕ) (e : Event) (o : Outcome) (old : ServerState) (sockets : S) (new : ServerState) (after : S)
-    → Grows (calls sockets) (calls after) (Happens e ∷ []) → failures after ≡ failures sockets
-    → calls_behind e o ≡ [] → Step old e o new
-    → Does calls failures (e ∷ []) old sockets new after
-does_quietly calls failures e o old sockets new after happens no_failure quiet step =
-    does_one calls failures e o old sockets after new after happens no_failure step (subst (λ cs. Grows (calls after) (calls after) cs) (sym quiet) (grows_nothing (calls after))) refl
+pub continues_nothing : (holds : Recorded) → Continues holds [] holds
+continues_nothing holds = λ age events held. subst (λ es. holds age es) (sym (append-nil events)) held
 
-pub does_nothing : {S : Type 0} (calls : S → Reported) (failures : S → ℕ) (old : ServerState) (sockets : S) (new : ServerState)
-    → new ≡ old → Does calls failures [] old sockets new sockets
-does_nothing calls failures old sockets new same = record { outcomes = []; run = same; reported = grows_nothing (calls sockets); count = refl }
+pub continues_joins : (a b c : Recorded) (xs ys : List Event) → Continues a xs b → Continues b ys c → Continues a (xs ++ ys) c
+continues_joins a b c xs ys h k =
+    λ age events held. subst (λ es. c age es) (append_assoc events xs ys) (k age (events ++ xs) (h age events held))
+
+-- One event is recorded and done, and then the call after it is made.
+pub does_one : (e : Event) (o : Outcome) (old new : RunningServer) (sockets after : Told) (holds kept : Recorded)
+    → Step old.state e o new.state → new.notes ≡ notes_of old.state e o → Continues holds (e ∷ []) kept → Answers sockets (calls_behind e o) after
+    → Does (e ∷ []) (around old sockets holds) (around new after kept)
+does_one e o old new sockets after holds kept step noted recorded reported = record {
+  outcomes = o ∷ [];
+  run = (new.state, step, refl);
+  noted = noted;
+  recorded = recorded;
+  reported = subst (λ cs. Answers sockets cs after) (sym (append-nil (calls_behind e o))) reported;
+}
+
+-- One after which no call is made.
+pub does_quietly : (e : Event) (o : Outcome) (old new : RunningServer) (sockets : Told) (holds kept : Recorded)
+    → Step old.state e o new.state → new.notes ≡ notes_of old.state e o → Continues holds (e ∷ []) kept → calls_behind e o ≡ []
+    → Does (e ∷ []) (around old sockets holds) (around new sockets kept)
+does_quietly e o old new sockets holds kept step noted recorded quiet =
+    does_one e o old new sockets sockets holds kept step noted recorded (subst (λ cs. Answers sockets cs sockets) (sym quiet) (answers_nothing sockets))
+
+-- The calls after an event by which no session is opened, and after bytes that are not refused.
+pub refused_behind : (a : List ℕ) (o : Outcome) → ((c : ℕ) → o ≡ outcome.Opened c → ⊥) → calls_behind (event.Open a) o ≡ Refused ∷ []
+refused_behind a (outcome.Opened c) never = absurd (never c refl)
+refused_behind a outcome.Done _ = refl
+refused_behind a (outcome.Fed n) _ = refl
+refused_behind a (outcome.Refused fault) _ = refl
+
+pub quiet_behind : (u : UpsId) (piece : List ℕ) (o : Outcome) → ((fault : Fault) → o ≡ outcome.Refused fault → ⊥) → calls_behind (event.DriverBytes u piece) o ≡ []
+quiet_behind u piece (outcome.Refused fault) never = absurd (never fault refl)
+quiet_behind u piece outcome.Done _ = refl
+quiet_behind u piece (outcome.Fed n) _ = refl
+quiet_behind u piece (outcome.Opened c) _ = refl
+
+pub does_nothing : (old new : RunningServer) (sockets : Told) (holds : Recorded) → new ≡ old → Does [] (around old sockets holds) (around new sockets holds)
+does_nothing old new sockets holds same = record {
+  outcomes = [];
+  run = ap (λ (r : RunningServer). r.state) same;
+  noted = ap (λ (r : RunningServer). r.notes) same;
+  recorded = continues_nothing holds;
+  reported = answers_nothing sockets;
+}
 
 -- The same from a server that is the same.
-pub does_from : {S : Type 0} (calls : S → Reported) (failures : S → ℕ) (es : List Event) (old mid : ServerState) (sockets : S) (new : ServerState) (after : S)
-    → mid ≡ old → Does calls failures es mid sockets new after → Does calls failures es old sockets new after
-does_from calls failures es old mid sockets new after same rest = subst (λ s. Does calls failures es s sockets new after) same rest
+pub does_from : (es : List Event) (old mid new : RunningServer) (sockets after : Told) (holds kept : Recorded) → mid ≡ old
+    → Does es (around mid sockets holds) (around new after kept) → Does es (around old sockets holds) (around new after kept)
+does_from es old mid new sockets after holds kept same rest = subst (λ (r : RunningServer). Does es (around r sockets holds) (around new after kept)) same rest
 
 -- A row: the call that it makes, and its events.
-pub row : {S : Type 0} (calls : S → Reported) (failures : S → ℕ) (ready : Ready) (answer : Answer) (a : Ask) (es : List Event) (old : ServerState) (sockets middle : S) (new : ServerState) (after : S)
-    → ask old ready ≡ a → row_events old ready answer ≡ es
-    → MayAnswer a answer → Grows (calls sockets) (calls middle) (answered a answer) → failures middle ≡ failures_by answer (failures sockets)
-    → Does calls failures es old middle new after
-    → IsRow calls failures [] ready old sockets new after
-row calls failures ready answer a es old sockets middle new after asked rows may reported count does = record {
+pub row : (ready : Ready) (answer : Answer) (a : Ask) (es : List Event) (old new : RunningServer) (sockets mid after : Told) (holds kept : Recorded)
+    → ask old.state ready ≡ a → row_events old.state ready answer ≡ es
+    → MayAnswer a answer → Reports (failures_by answer) sockets (answered a answer) mid
+    → Does es (around old mid holds) (around new after kept)
+    → IsRow ready (around old sockets holds) (around new after kept)
+row ready answer a es old new sockets mid after holds kept asked rows may called does = record {
   answer = answer;
-  outcomes = does.outcomes;
   may = subst (λ x. MayAnswer x answer) (sym asked) may;
-  run = subst (λ x. Run old x does.outcomes new) (sym rows) does.run;
-  reported = subst (λ x. Grows (calls sockets) (calls after) (answered x answer ++ calls_behind_all (row_events old ready answer) does.outcomes)) (sym asked)
-      (subst (λ x. Grows (calls sockets) (calls after) (answered a answer ++ calls_behind_all x does.outcomes)) (sym rows)
-      (grows_joins (calls sockets) (calls middle) (calls after) (answered a answer) (calls_behind_all es does.outcomes) reported does.reported));
-  count = does.count ∙ count;
+  mid = mid;
+  called = subst (λ x. Reports (failures_by answer) sockets (answered x answer) mid) (sym asked) called;
+  does = subst (λ x. Does x (around old mid holds) (around new after kept)) (sym rows) does;
 }
 
--- A row after the answer of ready.
-pub row_behind : {S : Type 0} (calls : S → Reported) (failures : S → ℕ) (ready : Ready) (old : ServerState) (sockets middle : S) (new : ServerState) (after : S)
-    → Grows (calls sockets) (calls middle) (Readied ready ∷ []) → failures middle ≡ failures sockets → IsRow calls failures [] ready old middle new after
-    → IsRow calls failures (Readied ready ∷ []) ready old sockets new after
-row_behind calls failures ready old sockets middle new after reported count r = record {
+-- A row that asks nothing of the sockets.
+pub row_unasked : (ready : Ready) (es : List Event) (old new : RunningServer) (sockets after : Told) (holds kept : Recorded)
+    → ask old.state ready ≡ nobody → row_events old.state ready unasked ≡ es → Does es (around old sockets holds) (around new after kept)
+    → IsRow ready (around old sockets holds) (around new after kept)
+row_unasked ready es old new sockets after holds kept asked rows does =
+    row ready unasked nobody es old new sockets sockets after holds kept asked rows tt (answers_nothing sockets) does
+
+-- A row after which the sockets learn something.
+pub row_then : (ready : Ready) (old new : RunningServer) (sockets mid after : Told) (holds kept : Recorded) → IsRow ready (around old sockets holds) (around new mid kept) → Answers mid [] after
+    → IsRow ready (around old sockets holds) (around new after kept)
+row_then ready old new sockets mid after holds kept r h = record {
   answer = r.answer;
-  outcomes = r.outcomes;
   may = r.may;
-  run = r.run;
-  reported = grows_joins (calls sockets) (calls middle) (calls after) (Readied ready ∷ []) (answered (ask old ready) r.answer ++ calls_behind_all (row_events old ready r.answer) r.outcomes) reported r.reported;
-  count = r.count ∙ ap (failures_by r.answer) count;
+  mid = r.mid;
+  called = r.called;
+  does = record {
+    outcomes = r.does.outcomes;
+    run = r.does.run;
+    noted = r.does.noted;
+    recorded = r.does.recorded;
+    reported = subst (λ cs. Answers r.mid cs after) (append-nil _) (reports_then _ r.mid mid after _ [] r.does.reported h);
+  };
 }
 
--- The row of a peer that is this one, after the answer of ready.
-pub row_of_peer : {S : Type 0} (calls : S → Reported) (failures : S → ℕ) (turn : Peer → Ready) (p q : Peer) (old : ServerState) (sockets middle : S) (new : ServerState) (after : S)
-    → p ≡ q → Grows (calls sockets) (calls middle) (Readied (turn p) ∷ []) → failures middle ≡ failures sockets → IsRow calls failures [] (turn q) old middle new after
-    → (ready : Ready) × IsRow calls failures (Readied ready ∷ []) ready old sockets new after
-row_of_peer calls failures turn p q old sockets middle new after is reported count r =
-    (turn q, row_behind calls failures (turn q) old sockets middle new after (subst (λ (this : Peer). Grows (calls sockets) (calls middle) (Readied (turn this) ∷ [])) is reported) count r)
+-- A turn: what is ready is found, before which the record may be written, and then its row is done.
+pub turn_of : (ready : Ready) (old new : RunningServer) (sockets mid after : Told) (holds paused kept : Recorded) → Readies (λ x y. IsFound old.state ready x y) sockets ready mid → Continues holds [] paused
+    → IsRow ready (around old mid paused) (around new after kept) → IsTurn (around old sockets holds) (around new after kept)
+turn_of ready old new sockets mid after holds paused kept found recorded r = record {
+  ready = ready;
+  mid = mid;
+  found = found;
+  row = record {
+    answer = r.answer;
+    may = r.may;
+    mid = r.mid;
+    called = r.called;
+    does = record { outcomes = r.does.outcomes; run = r.does.run; noted = r.does.noted; recorded = continues_joins holds paused kept [] (row_events old.state ready r.answer) recorded r.does.recorded; reported = r.does.reported };
+  };
+}
 
--- A row of one event, which asks nothing of the sockets, after the answer of ready.
-pub row_of_event : {S : Type 0} (calls : S → Reported) (failures : S → ℕ) (ready : Ready) (e : Event) (o : Outcome) (old : ServerState) (sockets middle : S) (new : ServerState) (after : S)
-    → ask old ready ≡ nobody → row_events old ready unasked ≡ e ∷ []
-    → Grows (calls sockets) (calls middle) (Readied ready ∷ []) → failures middle ≡ failures sockets
-    → Grows (calls middle) (calls after) (Happens e ∷ []) → failures after ≡ failures middle → calls_behind e o ≡ [] → Step old e o new
-    → IsRow calls failures (Readied ready ∷ []) ready old sockets new after
-row_of_event calls failures ready e o old sockets middle new after asked rows reported count happens no_failure quiet step =
-    row_behind calls failures ready old sockets middle new after reported count
-    (row calls failures ready unasked nobody (e ∷ []) old middle middle new after asked rows tt (grows_nothing (calls middle)) refl
-    (does_quietly calls failures e o old middle new after happens no_failure quiet step))
+-- The turn of a peer that is this one.
+pub turn_of_peer : (turn : Peer → Ready) (p q : Peer) (old new : RunningServer) (sockets mid after : Told) (holds paused kept : Recorded) → p ≡ q → Readies (λ x y. IsFound old.state (turn p) x y) sockets (turn p) mid
+    → Continues holds [] paused → IsRow (turn q) (around old mid paused) (around new after kept) → IsTurn (around old sockets holds) (around new after kept)
+turn_of_peer turn p q old new sockets mid after holds paused kept is found recorded r =
+    turn_of (turn q) old new sockets mid after holds paused kept (subst (λ (this : Peer). Readies (λ x y. IsFound old.state (turn this) x y) sockets (turn this) mid) is found) recorded r
 
 -- The calls of clients' rows.
 
@@ -207,7 +240,7 @@ nothing_is_owed u s h = ap (λ o. write_of (Driver u) (option_map_or owed_to o [
 -- The end of a client.
 
 pub nobody_ends : (c : ℕ) (s : ServerState) → session c s ≡ None → end_of c s ≡ []
-nobody_ends c s h = ap (λ o. if option_map_or is_finished o false then Close c ∷ [] else []) h
+nobody_ends c s h = ap (λ o. if option_map_or is_finished o false then event.Close c ∷ [] else []) h
 
 -- Drivers.
 

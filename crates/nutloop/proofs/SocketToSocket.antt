@@ -26,12 +26,14 @@ use Rattle.nutcore.specs.DriverOrders.{owed_to_driver, connections}
 use Rattle.nutcore.specs.DriverOrders as driver
 use Rattle.nutcore.specs.OrdersByRight.{all_given}
 use Rattle.nutloop.specs.declared.sockets.Call.{Call}
-use Rattle.nutloop.specs.Sockets.{Reported}
+use Rattle.nutcore.specs.Recording.{Recorded}
+use Rattle.nutloop.specs.Sockets.{Told}
+use Rattle.nutloop.specs.Serving.{Running}
 use Rattle.nutloop.specs.Turn.{room_at}
 use Rattle.nutloop.specs.Moved.{is_client, is_driver, gave_in, took_in, bytes_given, bytes_taken, along}
 use Rattle.nutloop.specs.SocketToSocket.{IsAnswered, AreAnswered, WhatASocketGaveIsAnswered, DriversAreServedByTheirSockets, ADriverIsServedByItsSocket}
 use Rattle.nutloop.proofs.Moving.{Fit}
-use Rattle.nutloop.proofs.Turning.{Moves, turns_are_moved, none, taken_fits, taken_is_along, came_fits, came_is_along, reported_since}
+use Rattle.nutloop.proofs.Turning.{Between, all_are_moved, none, taken_fits, taken_is_along, came_fits, came_is_along, reported_since}
 
 -- What was fed to the client, as far as there was room for it: all of what its socket gave, since no more is read.
 abbrev with_room : ℕ → ServerState → Event → List ℕ
@@ -153,29 +155,31 @@ is_answered c since old new es os none nothing gave took a sent up = record {
   took_once_closed = λ h. subst (λ v. IsBeginning v (answers c old es os)) (sym took) (subst (λ v. IsBeginning (taken c old es os) (v ++ answers c old es os)) nothing (sent.once_closed h));
 }
 
-pub what_a_socket_gave_is_answered : {S : Type 0} (calls : S → Reported) (failures : S → ℕ)
+pub what_a_socket_gave_is_answered : {S R : Type 0} (told : S → Told) (holds : R → Recorded)
     → WhatWasSentAndIsOwedIsTheAnswers → WhatWasAskedIsExecutedOrHeld → EachAnswerIsTimely → WhatNeverGoesBack
-    → ANewServerIsSound → EachEventKeepsTheServerSound → ASoundServerIsLawful → WhatASocketGaveIsAnswered calls failures
-what_a_socket_gave_is_answered {S} calls failures sent up timely never opening sound lawful = λ old new sockets after results before now is_new turns reported reported_after.
-    from old new sockets after before now is_new (turns_are_moved calls failures results old sockets new after turns) reported reported_after
+    → ANewServerIsSound → EachEventKeepsTheServerSound → ASoundServerIsLawful → WhatASocketGaveIsAnswered told holds
+what_a_socket_gave_is_answered {S} {R} told holds sent up timely never opening sound lawful = λ old new result before now is_new turns reported reported_after.
+    from old new before now is_new (all_are_moved told holds old result new turns) reported reported_after
   where
-    from : (old new : ServerState) (sockets after : S) (before now : List Call) → IsNewServer old → Moves calls old sockets new after → (calls sockets).answered ≡ Some before → (calls after).answered ≡ Some now
-        → (since : List Call) × (now ≡ before ++ since) × AreAnswered since old new
-    from old new sockets after before now n m reported reported_after =
-        let s : IsSound old = subst IsSound (sym n.is) (opening n.list n.users n.descriptions n.max_age n.is_list n.are_lawful n.is_max_age) in (
+    from : (old new : Running S R) (before now : List Call) → IsNewServer old.server.state → Between told holds old new → (told old.sockets).calls ≡ Some before → (told new.sockets).calls ≡ Some now
+        → (since : List Call) × (now ≡ before ++ since) × AreAnswered since old.server.state new.server.state
+    from old new before now n m reported reported_after =
+        let s : ServerState = old.server.state in
+        let t : ServerState = new.server.state in
+        let is_sound : IsSound s = subst IsSound (sym n.is) (opening n.list n.users n.descriptions n.max_age n.is_list n.are_lawful n.is_max_age) in (
           m.since,
-          reported_since (calls sockets).answered (calls after).answered before now m.since m.grown.0 reported reported_after,
+          reported_since (told old.sockets).calls (told new.sockets).calls before now m.since m.follows reported reported_after,
           record {
             events = m.events;
             outcomes = m.outcomes;
             run = m.run;
-            timely = timely old new m.events m.outcomes m.run;
-            answered = λ c. is_answered c m.since old new m.events m.outcomes (ap (held c) n.is) (ap (owed c) n.is)
+            timely = timely s t m.events m.outcomes m.run;
+            answered = λ c. is_answered c m.since s t m.events m.outcomes (ap (held c) n.is) (ap (owed c) n.is)
                 (m.moves (gave_in (is_client c)) (with_room c) (room_fits c))
-                (m.moves (took_in (is_client c)) (taken_in_event c) (taken_fits c) ∙ taken_is_along c old m.events m.outcomes)
-                (is_asked never sound lawful c old new m.events m.outcomes s m.run)
-                (sent old new m.events m.outcomes (lawful old s) m.run c)
-                (up old new m.events m.outcomes (lawful old s) m.run c);
+                (m.moves (took_in (is_client c)) (taken_in_event c) (taken_fits c) ∙ taken_is_along c s m.events m.outcomes)
+                (is_asked never sound lawful c s t m.events m.outcomes is_sound m.run)
+                (sent s t m.events m.outcomes (lawful s is_sound) m.run c)
+                (up s t m.events m.outcomes (lawful s is_sound) m.run c);
           },
         )
 
@@ -255,25 +259,27 @@ is_given u since old new es os took stays sent =
     ∙ subst (λ v. driver.IsSentAndOwed (owed_to_driver u old) v (owed_to_driver u new)) one.is sent
     ∙ ap (λ v. v ++ owed_to_driver u new) (sym took)
 
-pub a_driver_is_served_by_its_socket : {S : Type 0} (calls : S → Reported) (failures : S → ℕ) → WhatADriverReportedIsExecuted → driver.WhatADriverWasSentAndIsOwedIsWhatItWasGiven → ADriverIsServedByItsSocket calls failures
-a_driver_is_served_by_its_socket {S} calls failures executed_all sent_all = λ old new sockets after results before now sound turns reported reported_after.
-    from old new sockets after before now sound (turns_are_moved calls failures results old sockets new after turns) reported reported_after
+pub a_driver_is_served_by_its_socket : {S R : Type 0} (told : S → Told) (holds : R → Recorded) → WhatADriverReportedIsExecuted → driver.WhatADriverWasSentAndIsOwedIsWhatItWasGiven → ADriverIsServedByItsSocket told holds
+a_driver_is_served_by_its_socket {S} {R} told holds executed_all sent_all = λ old new result before now sound turns reported reported_after.
+    from old new before now sound (all_are_moved told holds old result new turns) reported reported_after
   where
-    from : (old new : ServerState) (sockets after : S) (before now : List Call) → IsSound old → Moves calls old sockets new after → (calls sockets).answered ≡ Some before → (calls after).answered ≡ Some now
-        → (since : List Call) × (now ≡ before ++ since) × DriversAreServedByTheirSockets since old new
-    from old new sockets after before now sound m reported reported_after = (
-      m.since,
-      reported_since (calls sockets).answered (calls after).answered before now m.since m.grown.0 reported reported_after,
-      record {
-        events = m.events;
-        outcomes = m.outcomes;
-        run = m.run;
-        each = λ u stays. record {
-          gave = subst (λ v. DriverIsHeard u old v (heard u old m.events m.outcomes) new)
-              (sym (m.moves (gave_in (is_driver u)) (λ s e. came_in_event u e) (came_fits u) ∙ came_is_along u old new m.events m.outcomes m.run))
-              (executed_all old new m.events m.outcomes u m.run stays);
-          took = is_given u m.since old new m.events m.outcomes (m.moves (took_in (is_driver u)) (took_of u) (took_fits u)) stays
-              (sent_all old new m.events m.outcomes u sound (there_is u old (is_there u old m.events m.outcomes stays)) m.run);
-        };
-      },
-    )
+    from : (old new : Running S R) (before now : List Call) → IsSound old.server.state → Between told holds old new → (told old.sockets).calls ≡ Some before → (told new.sockets).calls ≡ Some now
+        → (since : List Call) × (now ≡ before ++ since) × DriversAreServedByTheirSockets since old.server.state new.server.state
+    from old new before now sound m reported reported_after =
+        let s : ServerState = old.server.state in
+        let t : ServerState = new.server.state in (
+          m.since,
+          reported_since (told old.sockets).calls (told new.sockets).calls before now m.since m.follows reported reported_after,
+          record {
+            events = m.events;
+            outcomes = m.outcomes;
+            run = m.run;
+            each = λ u stays. record {
+              gave = subst (λ v. DriverIsHeard u s v (heard u s m.events m.outcomes) t)
+                  (sym (m.moves (gave_in (is_driver u)) (λ s e. came_in_event u e) (came_fits u) ∙ came_is_along u s t m.events m.outcomes m.run))
+                  (executed_all s t m.events m.outcomes u m.run stays);
+              took = is_given u m.since s t m.events m.outcomes (m.moves (took_in (is_driver u)) (took_of u) (took_fits u)) stays
+                  (sent_all s t m.events m.outcomes u sound (there_is u s (is_there u s m.events m.outcomes stays)) m.run);
+            };
+          },
+        )

@@ -1,5 +1,5 @@
 -- Turns, one after another, and what they move.
-use Rattle.std.proofs.Common.{◌≡◌, ℕ, zero, suc, Bool, true, false, List, [], ◌∷◌, ◌++◌, length, take, Option, Some, None, refl, sym, ap, subst, ◌∙◌, append-nil, append_assoc, arith, rules, All}
+use Rattle.std.proofs.Common.{◌≡◌, ℕ, zero, suc, Bool, true, false, List, [], ◌∷◌, ◌++◌, length, take, Option, Some, None, refl, sym, ap, ap₂, subst, ◌∙◌, ◌+◌, add-one, append-nil, append_assoc, arith, rules, All}
 use Rattle.std.specs.Prelude.{◌≤◌, ◌==◌, if◌then◌else◌, Result, Ok, Err, IfSome, IsTrue, nat_le}
 use Rattle.std.specs.Option.{option_map_or}
 use Rattle.std.specs.List.{flat_map}
@@ -10,30 +10,33 @@ use Rattle.nutusers.specs.declared.ups_list.UpsId.{UpsId}
 use Rattle.nutcore.specs.declared.event.Event.{Event}
 use Rattle.nutcore.specs.declared.event.Event.TheVariants as event
 use Rattle.nutcore.specs.declared.event.Outcome.{Outcome}
-use Rattle.nutcore.specs.declared.event.Outcome.TheVariants as outcome
 use Rattle.nutcore.specs.declared.event.Peer.TheVariants.{Driver}
+use Rattle.nutcore.specs.declared.note.Note.{Note}
 use Rattle.nutcore.specs.Session.{SessionState}
 use Rattle.nutcore.specs.Server.{ServerState, session}
 use Rattle.nutcore.specs.Pump.{owed_of}
+use Rattle.nutcore.specs.Cost.{RunningServer, begun}
+use Rattle.nutcore.specs.Notes.{notes_of}
+use Rattle.nutcore.specs.NotedRuns.{notes_along}
+use Rattle.nutcore.specs.Recording.{Recorded, Continues}
 use Rattle.nutcore.specs.Step.{after, offered, may_take}
 use Rattle.nutcore.specs.Run.{Run}
 use Rattle.nutcore.specs.History.{taken, taken_in_event}
 use Rattle.nutcore.specs.DriverHistory.{came, came_in_event}
 use Rattle.nutcore.specs.DriverOrders.{owed_to_driver}
-use Rattle.nutcore.specs.ReadsBack.{HasLawfulAddress}
-use Rattle.nutcore.specs.Addresses.{OpensLawfully, EveryRunKeepsAddressesLawful, opened_from}
+use Rattle.nutcore.specs.Addresses.{OpensLawfully, opened_from}
 use Rattle.nutwords.specs.Reading.{is_address}
 use Rattle.nutloop.specs.declared.fault.LoopFault.{LoopFault}
 use Rattle.nutloop.specs.declared.fault.LoopFault.TheVariants as fault
 use Rattle.nutloop.specs.declared.sockets.Ready.{Ready}
 use Rattle.nutloop.specs.declared.sockets.Ready.TheVariants.{Newcomer}
 use Rattle.nutloop.specs.declared.sockets.Call.{Call}
-use Rattle.nutloop.specs.declared.sockets.Call.TheVariants.{Readied, Shut}
-use Rattle.nutloop.specs.Sockets.{Reported, event_in, events_in, GrowsBy, Grows}
-use Rattle.nutloop.specs.Turn.{Ask, nobody, accepts, reads, writes, Answer, unasked, newcomer, gave, later, ended, took, failed, ask, answered, row_events, calls_behind, calls_behind_all, loses_driver, IsRow, TurnGives}
-use Rattle.nutloop.specs.Moved.{Turns, is_client, is_driver, gave_in, took_in, along, fed_in_event, driver_took_in_event, AreMoved, EveryByteIsMovedOnce}
-use Rattle.nutloop.proofs.Rows.{grows_nothing, grows_joins}
-use Rattle.nutloop.specs.Serving.{IsOneRun, AnyTurnsAreOneRun, EveryEventIsRecorded, AnyTurnsKeepAddressesLawful}
+use Rattle.nutloop.specs.declared.sockets.Call.TheVariants.{Readied}
+use Rattle.nutloop.specs.Sockets.{Follows, Told}
+use Rattle.nutloop.specs.Turn.{ask, answered, row_events, calls_behind_all, AreNoted, IsTurn, LoopState, TurnGives}
+use Rattle.nutloop.specs.Serving.{Running, before_turn, seen, Turns, ShownTurns, Ends, IsOneRun, TurnsUpTo}
+use Rattle.nutloop.specs.Moved.{is_client, is_driver, gave_in, took_in, along, fed_in_event, driver_took_in_event, AreMoved, EveryByteIsMovedOnce}
+use Rattle.nutloop.proofs.Rows.{follows_nothing, follows_joins, continues_nothing, continues_joins}
 use Rattle.nutloop.proofs.Moving.{Fit, row_moves, behind_all}
 
 -- Runs and what is found along them are joined.
@@ -51,54 +54,31 @@ along_joins f s mid (e ∷ es) fs (o ∷ os) qs r =
     let rest : Run (after s e o) es os mid = subst (λ t. Run t es os mid) r.1.leaves r.2 in
     ap (λ v. f s e ++ v) (along_joins f (after s e o) mid es fs os qs rest) ∙ sym (append_assoc (f s e) (along f (after s e o) es os) (along f mid fs qs))
 
+notes_join : (s mid : ServerState) (es fs : List Event) (os qs : List Outcome) → Run s es os mid → notes_along s (es ++ fs) (os ++ qs) ≡ notes_along s es os ++ notes_along mid fs qs
+notes_join s mid [] fs [] qs r = ap (λ t. notes_along t fs qs) (sym r)
+notes_join s mid [] fs (o ∷ os) qs r = absurd r
+notes_join s mid (e ∷ es) fs [] qs r = absurd r
+notes_join s mid (e ∷ es) fs (o ∷ os) qs r =
+    let rest : Run (after s e o) es os mid = subst (λ t. Run t es os mid) r.1.leaves r.2 in
+    ap (λ v. notes_of s e o ++ v) (notes_join (after s e o) mid es fs os qs rest) ∙ sym (append_assoc (notes_of s e o) (notes_along (after s e o) es os) (notes_along mid fs qs))
+
+noted_by_one : (s : ServerState) (new : RunningServer) (es : List Event) (os : List Outcome) → AreNoted (begun s) es os new → new.notes ≡ notes_along s es os
+noted_by_one s new [] [] h = h
+noted_by_one s new (e ∷ []) (o ∷ []) h = h ∙ sym (append-nil (notes_of s e o))
+noted_by_one s new [] (o ∷ os) h = absurd h
+noted_by_one s new (e ∷ []) [] h = absurd h
+noted_by_one s new (e ∷ []) (o ∷ (q ∷ os)) h = absurd h
+noted_by_one s new (e ∷ (f ∷ es)) os h = absurd h
+
 -- What turns did, in the words of any reading of calls and events that fit.
-pub record Moves {S : Type 0} (calls : S → Reported) (old : ServerState) (sockets : S) (new : ServerState) (after : S) : Type 0 where
+pub record Moves (old : ServerState) (a : Told) (holds : Recorded) (new : ServerState) (b : Told) (kept : Recorded) : Type 0 where
   pub since : List Call
   pub events : List Event
   pub outcomes : List Outcome
-  pub grown : Grows (calls sockets) (calls after) since
+  pub follows : Follows a.calls since b.calls
   pub run : Run old events outcomes new
-  pub tells : events_in since ≡ events
+  pub recorded : Continues holds events kept
   pub moves : (g : Call → List ℕ) (f : ServerState → Event → List ℕ) → Fit g f → flat_map g since ≡ along f old events outcomes
-
--- The events among the calls of a row.
-none_answered : (a : Ask) (x : Answer) → events_in (answered a x) ≡ []
-none_answered nobody x = elim x as (λ y. events_in (answered nobody y) ≡ []) [ unasked ↦ refl | newcomer a ↦ refl | gave b ↦ refl | later ↦ refl | ended ↦ refl | took n ↦ refl | failed ↦ refl ]
-none_answered accepts x = elim x as (λ y. events_in (answered accepts y) ≡ []) [ unasked ↦ refl | newcomer a ↦ refl | gave b ↦ refl | later ↦ refl | ended ↦ refl | took n ↦ refl | failed ↦ refl ]
-none_answered (reads p most) x = elim x as (λ y. events_in (answered (reads p most) y) ≡ []) [ unasked ↦ refl | newcomer a ↦ refl | gave b ↦ refl | later ↦ refl | ended ↦ refl | took n ↦ refl | failed ↦ refl ]
-none_answered (writes p bytes) x = elim x as (λ y. events_in (answered (writes p bytes) y) ≡ []) [ unasked ↦ refl | newcomer a ↦ refl | gave b ↦ refl | later ↦ refl | ended ↦ refl | took n ↦ refl | failed ↦ refl ]
-
-none_lost : (u : UpsId) (b : Bool) → events_in (if b then Shut (Driver u) ∷ [] else []) ≡ []
-none_lost u true = refl
-none_lost u false = refl
-
-none_behind : (e : Event) (o : Outcome) → events_in (calls_behind e o) ≡ []
-none_behind (event.DriverBytes u piece) (outcome.Refused r) = none_lost u (loses_driver r)
-none_behind (event.DriverBytes u piece) outcome.Done = refl
-none_behind (event.DriverBytes u piece) (outcome.Fed n) = refl
-none_behind (event.DriverBytes u piece) (outcome.Opened c) = refl
-none_behind (event.Open a) outcome.Done = refl
-none_behind (event.Open a) (outcome.Fed n) = refl
-none_behind (event.Open a) (outcome.Opened c) = refl
-none_behind (event.Open a) (outcome.Refused r) = refl
-none_behind (event.DriverUp u) o = refl
-none_behind (event.DriverTook u n) o = refl
-none_behind (event.DriverDown u) o = refl
-none_behind (event.Tick n) o = refl
-none_behind (event.Feed c piece) o = refl
-none_behind (event.Took c n) o = refl
-none_behind (event.Close c) o = refl
-none_behind (event.Id n) o = refl
-
-reported_behind : (s new : ServerState) (es : List Event) (os : List Outcome) → Run s es os new → events_in (calls_behind_all es os) ≡ es
-reported_behind s new [] os r = refl
-reported_behind s new (e ∷ es) [] r = absurd r
-reported_behind s new (e ∷ es) (o ∷ os) r =
-    ap (λ v. e ∷ v) (flat_map-append event_in (calls_behind e o) (calls_behind_all es os)
-    ∙ ap (λ v. v ++ events_in (calls_behind_all es os)) (none_behind e o) ∙ reported_behind r.0 new es os r.2)
-
-row_tells : (r : Ready) (a b : List Call) (es : List Event) → events_in a ≡ [] → events_in b ≡ es → events_in ((Readied r ∷ a) ++ b) ≡ es
-row_tells r a b es ha hb = flat_map-append event_in (Readied r ∷ a) b ∙ ap (λ v. v ++ events_in b) ha ∙ hb
 
 -- The calls of a row.
 row_reads : (g : Call → List ℕ) (f : ServerState → Event → List ℕ) → Fit g f → (r : Ready) (a b : List Call) (bytes : List ℕ) → flat_map g a ≡ bytes → flat_map g b ≡ [] → flat_map g ((Readied r ∷ a) ++ b) ≡ bytes
@@ -109,46 +89,41 @@ row_reads g f fit r a b bytes ha hb =
     ∙ append-nil (flat_map g a)
     ∙ ha
 
-row_is_moved : {S : Type 0} (calls : S → Reported) (failures : S → ℕ) (ready : Ready) (old : ServerState) (sockets : S) (new : ServerState) (after : S) → IsRow calls failures (Readied ready ∷ []) ready old sockets new after → Moves calls old sockets new after
-row_is_moved calls failures ready old sockets new after w =
-    let es : List Event = row_events old ready w.answer in
+abbrev turn_is_moved : (old new : LoopState) → IsTurn old new → Moves old.server.state old.sockets old.record_of new.server.state new.sockets new.record_of
+turn_is_moved old new t =
+    let s = old.server.state in
+    let w = t.row in
+    let es : List Event = row_events s t.ready w.answer in
     record {
-      since = (Readied ready ∷ answered (ask old ready) w.answer) ++ calls_behind_all es w.outcomes;
+      since = (Readied t.ready ∷ answered (ask s t.ready) w.answer) ++ calls_behind_all es w.does.outcomes;
       events = es;
-      outcomes = w.outcomes;
-      grown = w.reported;
-      run = w.run;
-      tells = row_tells ready (answered (ask old ready) w.answer) (calls_behind_all es w.outcomes) es (none_answered (ask old ready) w.answer) (reported_behind old new es w.outcomes w.run);
-      moves = λ g f fit. row_reads g f fit ready (answered (ask old ready) w.answer) (calls_behind_all es w.outcomes) (along f old es w.outcomes)
-          (row_moves g f fit old new ready w.answer w.outcomes w.may w.run) (behind_all g f fit es w.outcomes);
+      outcomes = w.does.outcomes;
+      follows = follows_joins old.sockets.calls w.mid.calls new.sockets.calls (Readied t.ready ∷ answered (ask s t.ready) w.answer) (calls_behind_all es w.does.outcomes)
+          (follows_joins old.sockets.calls t.mid.calls w.mid.calls (Readied t.ready ∷ []) (answered (ask s t.ready) w.answer) t.found.follows w.called.follows)
+          w.does.reported.follows;
+      run = w.does.run;
+      recorded = w.does.recorded;
+      moves = λ g f fit. row_reads g f fit t.ready (answered (ask s t.ready) w.answer) (calls_behind_all es w.does.outcomes) (along f s es w.does.outcomes)
+          (row_moves g f fit s new.server.state t.ready w.answer w.does.outcomes w.may w.does.run) (behind_all g f fit es w.does.outcomes);
     }
 
-nothing_is_moved : {S : Type 0} (calls : S → Reported) (old : ServerState) (sockets : S) (new : ServerState) (after : S) → Grows (calls sockets) (calls after) [] → new ≡ old → Moves calls old sockets new after
-nothing_is_moved calls old sockets new after reported same = record { since = []; events = []; outcomes = []; grown = reported; run = same; tells = refl; moves = λ g f fit. refl }
+turn_notes : (s : ServerState) (a : Told) (holds : Recorded) (new : LoopState) (t : IsTurn (record { server = begun s; sockets = a; record_of = holds }) new)
+    → new.server.notes ≡ notes_along s (turn_is_moved (record { server = begun s; sockets = a; record_of = holds }) new t).events (turn_is_moved (record { server = begun s; sockets = a; record_of = holds }) new t).outcomes
+turn_notes s a holds new t = noted_by_one s new.server (row_events s t.ready t.row.answer) t.row.does.outcomes t.row.does.noted
 
-newcomer_is_moved : {S : Type 0} (calls : S → Reported) (old : ServerState) (sockets : S) (new : ServerState) (after : S) → Grows (calls sockets) (calls after) (Readied Newcomer ∷ []) → new ≡ old → Moves calls old sockets new after
-newcomer_is_moved calls old sockets new after reported same = record { since = Readied Newcomer ∷ []; events = []; outcomes = []; grown = reported; run = same; tells = refl; moves = λ g f fit. append-nil (g (Readied Newcomer)) ∙ fit.readied Newcomer }
+abbrev nothing_is_moved : (s new : ServerState) (a b : Told) (holds kept : Recorded) → new ≡ s → Follows a.calls [] b.calls → Continues holds [] kept → Moves s a holds new b kept
+nothing_is_moved s new a b holds kept same follows recorded = record { since = []; events = []; outcomes = []; follows = follows; run = same; recorded = recorded; moves = λ g f fit. refl }
 
-turn_is_moved : {S : Type 0} (calls : S → Reported) (failures : S → ℕ) (old : ServerState) (sockets : S) (r : Result (Unit {0}) LoopFault) (new : ServerState) (after : S) → TurnGives calls failures old sockets r new after → Moves calls old sockets new after
-turn_is_moved calls failures old sockets (Ok u) new after t = row_is_moved calls failures t.0 old sockets new after t.1
-turn_is_moved calls failures old sockets (Err fault.Ready) new after t = nothing_is_moved calls old sockets new after t.reported t.same
-turn_is_moved calls failures old sockets (Err fault.Accept) new after t = newcomer_is_moved calls old sockets new after t.reported t.same
-
-both_are_moved : {S : Type 0} (calls : S → Reported) (old : ServerState) (sockets : S) (mid : ServerState) (middle : S) (new : ServerState) (after : S) → Moves calls old sockets mid middle → Moves calls mid middle new after → Moves calls old sockets new after
-both_are_moved calls old sockets mid middle new after x y = record {
+abbrev both_are_moved : (old mid new : ServerState) (a b c : Told) (holds between kept : Recorded) → Moves old a holds mid b between → Moves mid b between new c kept → Moves old a holds new c kept
+both_are_moved old mid new a b c holds between kept x y = record {
   since = x.since ++ y.since;
   events = x.events ++ y.events;
   outcomes = x.outcomes ++ y.outcomes;
-  grown = grows_joins (calls sockets) (calls middle) (calls after) x.since y.since x.grown y.grown;
+  follows = follows_joins a.calls b.calls c.calls x.since y.since x.follows y.follows;
   run = run_joins old mid new x.events y.events x.outcomes y.outcomes x.run y.run;
-  tells = flat_map-append event_in x.since y.since ∙ ap (λ v. v ++ events_in y.since) x.tells ∙ ap (λ v. x.events ++ v) y.tells;
+  recorded = continues_joins holds between kept x.events y.events x.recorded y.recorded;
   moves = λ g f fit. flat_map-append g x.since y.since ∙ ap (λ v. v ++ flat_map g y.since) (x.moves g f fit) ∙ ap (λ v. along f old x.events x.outcomes ++ v) (y.moves g f fit) ∙ sym (along_joins f old mid x.events y.events x.outcomes y.outcomes x.run);
 }
-
-pub turns_are_moved : {S : Type 0} (calls : S → Reported) (failures : S → ℕ) (rs : List (Result (Unit {0}) LoopFault)) (old : ServerState) (sockets : S) (new : ServerState) (after : S) → Turns calls failures old sockets rs new after → Moves calls old sockets new after
-turns_are_moved calls failures [] old sockets new after t = nothing_is_moved calls old sockets new after (subst (λ k. Grows (calls sockets) (calls k) []) (sym t.1) (grows_nothing (calls sockets))) t.0
-turns_are_moved calls failures (r ∷ rs) old sockets new after t =
-    both_are_moved calls old sockets t.0 t.1.0 new after (turn_is_moved calls failures old sockets r t.0 t.1.0 t.1.1) (turns_are_moved calls failures rs t.0 t.1.0 new after t.1.2)
 
 -- They open sessions only from lawful addresses: of any other there would be something.
 abbrev unlawful : Option (List ℕ) → List ℕ
@@ -180,22 +155,123 @@ opens_lawfully s new (e ∷ es) (o ∷ os) r h =
     let no = empty (unlawful (opened_from e)) (along (λ s e. unlawful (opened_from e)) (after s e o) es os) h in
     All-cons OpensLawfully e es (is_lawful (opened_from e) no.0) (opens_lawfully (after s e o) new es os (subst (λ t. Run t es os new) r.1.leaves r.2) no.1)
 
-open_lawfully : {S : Type 0} (calls : S → Reported) (old : ServerState) (sockets : S) (new : ServerState) (after : S) (m : Moves calls old sockets new after) → All OpensLawfully m.events
-open_lawfully calls old sockets new after m =
+open_lawfully : (old new : ServerState) (a b : Told) (holds kept : Recorded) (m : Moves old a holds new b kept) → All OpensLawfully m.events
+open_lawfully old new a b holds kept m =
     opens_lawfully old new m.events m.outcomes m.run (sym (m.moves (λ x. []) (λ s e. unlawful (opened_from e)) lawful_fits) ∙ none_given m.since)
 
--- Any turns are one run.
-pub any_turns_are_one_run : {S : Type 0} (calls : S → Reported) (failures : S → ℕ) → AnyTurnsAreOneRun calls failures
-any_turns_are_one_run {S} calls failures = λ old new sockets after results turns. from old new sockets after (turns_are_moved calls failures results old sockets new after turns)
-  where
-    from : (old new : ServerState) (sockets after : S) → Moves calls old sockets new after → IsOneRun old new
-    from old new sockets after m = (m.events, (m.outcomes, m.run, open_lawfully calls old sockets new after m))
+module _ {S R : Type 0} (told : S → Told) (holds : R → Recorded) where
+  abbrev pub Between : Running S R → Running S R → Type 0
+  Between old new = Moves old.server.state (told old.sockets) (holds old.kept) new.server.state (told new.sockets) (holds new.kept)
 
-pub any_turns_keep_addresses_lawful : {S : Type 0} (calls : S → Reported) (failures : S → ℕ) → EveryRunKeepsAddressesLawful → AnyTurnsKeepAddressesLawful calls failures
-any_turns_keep_addresses_lawful {S} calls failures kept = λ old new sockets after results turns lawful. from old new sockets after (turns_are_moved calls failures results old sockets new after turns) lawful
-  where
-    from : (old new : ServerState) (sockets after : S) → Moves calls old sockets new after → All HasLawfulAddress old.sessions → All HasLawfulAddress new.sessions
-    from old new sockets after m lawful = kept old new m.events m.outcomes m.run (open_lawfully calls old sockets new after m) lawful
+  abbrev still : (old new : Running S R) → new ≡ old → Between old new
+  still old new same = record {
+    since = [];
+    events = [];
+    outcomes = [];
+    follows = subst (λ (r : Running S R). Follows (told old.sockets).calls [] (told r.sockets).calls) (sym same) (follows_nothing (told old.sockets).calls);
+    run = ap (λ (r : Running S R). r.server.state) same;
+    recorded = subst (λ (r : Running S R). Continues (holds old.kept) [] (holds r.kept)) (sym same) (continues_nothing (holds old.kept));
+    moves = λ g f fit. refl;
+  }
+
+  abbrev joined : (old mid new : Running S R) → Between old mid → Between mid new → Between old new
+  joined old mid new x y = both_are_moved old.server.state mid.server.state new.server.state (told old.sockets) (told mid.sockets) (told new.sockets) (holds old.kept) (holds mid.kept) (holds new.kept) x y
+
+  abbrev one : (old new : Running S R) → IsTurn (before_turn told holds old) (seen told holds new) → Between old new
+  one old new t = turn_is_moved (before_turn told holds old) (seen told holds new) t
+
+  turns_are_moved : (n : ℕ) (old new : Running S R) → Turns told holds old n new → Between old new
+  turns_are_moved zero old new t = still old new t
+  turns_are_moved (suc n) old new t = joined old t.0 new (one old t.0 t.1) (turns_are_moved n t.0 new t.2)
+
+  -- The turn that fails has no event.
+  abbrev end_is_moved : (n : ℕ) (old : Running S R) (result : Result (Unit {0}) LoopFault) (new : Running S R) → Ends told holds n old result new → Between old new
+  end_is_moved n old (Ok u) new e = still old new e.1
+  end_is_moved n old (Err fault.Ready) new e =
+      nothing_is_moved old.server.state new.server.state (told old.sockets) (told new.sockets) (holds old.kept) (holds new.kept) (ap (λ (r : RunningServer). r.state) e.0.server) e.1.follows e.0.recorded
+  end_is_moved n old (Err fault.Accept) new e = record {
+    since = Readied Newcomer ∷ [];
+    events = [];
+    outcomes = [];
+    follows = follows_joins (told old.sockets).calls e.1.0.calls (told new.sockets).calls (Readied Newcomer ∷ []) [] e.1.1.follows e.1.2.follows;
+    run = ap (λ (r : RunningServer). r.state) e.0.server;
+    recorded = e.0.recorded;
+    moves = λ g f fit. append-nil (g (Readied Newcomer)) ∙ fit.readied Newcomer;
+  }
+
+  pub all_are_moved : (old : Running S R) (result : Result (Unit {0}) LoopFault) (new : Running S R) → TurnsUpTo told holds old result new → Between old new
+  all_are_moved old result new t = joined old t.1.0 new (turns_are_moved t.0 old t.1.0 t.1.1) (end_is_moved t.0 t.1.0 result new t.1.2)
+
+  -- What is shown of the turns is what their events noted.
+  record IsNotedRun (old new : Running S R) (notes : List Note) : Type 0 where
+    moved : Between old new
+    noted : notes ≡ notes_along old.server.state moved.events moved.outcomes
+
+  module _ {W : Type 0} (shows : W → Running S R → W → Type 0) where
+    shown_are_noted : (n : ℕ) (old : Running S R) (watcher : W) (notes : List Note) (new : Running S R) (last : W) → ShownTurns told holds shows old watcher n notes new last → IsNotedRun old new notes
+    shown_are_noted zero old watcher notes new last t = record { moved = still old new t.0; noted = t.1.1 }
+    shown_are_noted (suc n) old watcher notes new last (mid, (next, (more, all, turn, shown, later))) =
+        let first = one old mid turn in
+        let rest = shown_are_noted n mid next more new last later in
+        record {
+          moved = joined old mid new first rest.moved;
+          noted = all ∙ ap₂ (λ xs ys. xs ++ ys) (turn_notes old.server.state (told old.sockets) (holds old.kept) (seen told holds mid) turn) rest.noted
+              ∙ sym (notes_join old.server.state mid.server.state first.events rest.moved.events first.outcomes rest.moved.outcomes first.run);
+        }
+
+    -- They are turns.
+    pub turns_shown : (n : ℕ) (old : Running S R) (watcher : W) (notes : List Note) (new : Running S R) (last : W) → ShownTurns told holds shows old watcher n notes new last → Turns told holds old n new
+    turns_shown zero old watcher notes new last t = t.0
+    turns_shown (suc n) old watcher notes new last (mid, (next, (more, all, one, shown, later))) = (mid, one, turns_shown n mid next more new last later)
+
+    -- One more turn after them.
+    next_shown : (n : ℕ) (old : Running S R) (watcher : W) (notes : List Note) (mid : Running S R) (next : W) (new : Running S R) (last : W) → ShownTurns told holds shows old watcher n notes mid next
+        → IsTurn (before_turn told holds mid) (seen told holds new) → shows next new last → ShownTurns told holds shows old watcher (suc n) (notes ++ new.server.notes) new last
+    next_shown zero old watcher notes mid next new last t turn h = (
+      new,
+      (
+        last,
+        (
+          [],
+          ap (λ ns. ns ++ new.server.notes) t.1.1 ∙ sym (append-nil new.server.notes),
+          subst (λ (r : Running S R). IsTurn (before_turn told holds r) (seen told holds new)) t.0 turn,
+          subst (λ w. shows w new last) t.1.0 h,
+          (refl, (refl, refl)),
+        ),
+      ),
+    )
+    next_shown (suc n) old watcher notes mid next new last (first, (w, (more, all, one, shown, later))) turn h = (
+      first,
+      (w, (more ++ new.server.notes, ap (λ ns. ns ++ new.server.notes) all ∙ append_assoc first.server.notes more new.server.notes, one, shown, next_shown n first w more mid next new last later turn h)),
+    )
+
+    pub shown_then : (n : ℕ) (old : Running S R) (watcher : W) (notes : List Note) (mid : Running S R) (next : W) (new : Running S R) (last : W) → ShownTurns told holds shows old watcher n notes mid next
+        → IsTurn (before_turn told holds mid) (seen told holds new) → shows next new last → ShownTurns told holds shows old watcher (n + 1) (notes ++ new.server.notes) new last
+    shown_then n old watcher notes mid next new last t turn h =
+        subst (λ k. ShownTurns told holds shows old watcher k (notes ++ new.server.notes) new last) (sym (add-one n)) (next_shown n old watcher notes mid next new last t turn h)
+
+    -- They are one run.
+    pub is_one_run : (n : ℕ) (old : Running S R) (watcher : W) (notes : List Note) (mid : Running S R) (last : W) (result : Result (Unit {0}) LoopFault) (new : Running S R)
+        → ShownTurns told holds shows old watcher n notes mid last → Ends told holds n mid result new → IsOneRun told holds old notes new
+    is_one_run n old watcher notes mid last result new shown ends =
+        let all = shown_are_noted n old watcher notes mid last shown in
+        let end = end_is_moved n mid result new ends in
+        let both = joined old mid new all.moved end in
+        record {
+          events = both.events;
+          outcomes = both.outcomes;
+          run = both.run;
+          opens = open_lawfully old.server.state new.server.state (told old.sockets) (told new.sockets) (holds old.kept) (holds new.kept) both;
+          recorded = both.recorded;
+          noted = all.noted ∙ sym (append-nil _) ∙ ap (λ ns. notes_along old.server.state all.moved.events all.moved.outcomes ++ ns) (sym (none_noted n mid result new ends))
+              ∙ sym (notes_join old.server.state mid.server.state all.moved.events end.events all.moved.outcomes end.outcomes all.moved.run);
+        }
+      where
+        none_noted : (n : ℕ) (mid : Running S R) (result : Result (Unit {0}) LoopFault) (new : Running S R) (e : Ends told holds n mid result new)
+            → notes_along mid.server.state (end_is_moved n mid result new e).events (end_is_moved n mid result new e).outcomes ≡ []
+        none_noted n mid (Ok u) new e = refl
+        none_noted n mid (Err fault.Ready) new e = refl
+        none_noted n mid (Err fault.Accept) new e = refl
 
 -- The four readings.
 pub none : (b : Bool) → if◌then◌else◌ {A = List ℕ} b [] [] ≡ []
@@ -260,39 +336,30 @@ came_is_along u s new [] (o ∷ os) r = absurd r
 came_is_along u s new (e ∷ es) [] r = absurd r
 came_is_along u s new (e ∷ es) (o ∷ os) r = ap (λ v. came_in_event u e ++ v) (came_is_along u (after s e o) new es os (subst (λ t. Run t es os new) r.1.leaves r.2))
 
-pub reported_since : (a b : Option (List Call)) (before now since : List Call) → GrowsBy a b since → a ≡ Some before → b ≡ Some now → now ≡ before ++ since
+pub reported_since : (a b : Option (List Call)) (before now since : List Call) → Follows a since b → a ≡ Some before → b ≡ Some now → now ≡ before ++ since
 reported_since (Some xs) (Some ys) before now since h e k = cc
 reported_since None b before now since h e k = cc
 reported_since (Some xs) None before now since h e k = cc
 
-pub every_byte_is_moved_once : {S : Type 0} (calls : S → Reported) (failures : S → ℕ) → EveryByteIsMovedOnce calls failures
-every_byte_is_moved_once {S} calls failures = λ old new sockets after results before now turns reported reported_after. from old new sockets after before now (turns_are_moved calls failures results old sockets new after turns) reported reported_after
+pub every_byte_is_moved_once : {S R : Type 0} (told : S → Told) (holds : R → Recorded) → EveryByteIsMovedOnce told holds
+every_byte_is_moved_once {S} {R} told holds = λ old new result before now turns reported reported_after. from old new before now (all_are_moved told holds old result new turns) reported reported_after
   where
-    from : (old new : ServerState) (sockets after : S) (before now : List Call) → Moves calls old sockets new after → (calls sockets).answered ≡ Some before → (calls after).answered ≡ Some now
-        → (since : List Call) × ((events : List Event) × ((outcomes : List Outcome) × (now ≡ before ++ since) × AreMoved since old events outcomes new))
-    from old new sockets after before now m reported reported_after = (
+    from : (old new : Running S R) (before now : List Call) → Between told holds old new → (told old.sockets).calls ≡ Some before → (told new.sockets).calls ≡ Some now
+        → (since : List Call) × ((events : List Event) × ((outcomes : List Outcome) × (now ≡ before ++ since) × AreMoved since old.server.state events outcomes new.server.state))
+    from old new before now m reported reported_after = (
       m.since,
       (
         m.events,
         (
           m.outcomes,
-          reported_since (calls sockets).answered (calls after).answered before now m.since m.grown.0 reported reported_after,
+          reported_since (told old.sockets).calls (told new.sockets).calls before now m.since m.follows reported reported_after,
           record {
             run = m.run;
             fed = λ c. m.moves (gave_in (is_client c)) (fed_in_event c) (fed_fits c);
-            taken_by_client = λ c. m.moves (took_in (is_client c)) (taken_in_event c) (taken_fits c) ∙ taken_is_along c old m.events m.outcomes;
-            came_of_driver = λ u. m.moves (gave_in (is_driver u)) (λ s e. came_in_event u e) (came_fits u) ∙ came_is_along u old new m.events m.outcomes m.run;
+            taken_by_client = λ c. m.moves (took_in (is_client c)) (taken_in_event c) (taken_fits c) ∙ taken_is_along c old.server.state m.events m.outcomes;
+            came_of_driver = λ u. m.moves (gave_in (is_driver u)) (λ s e. came_in_event u e) (came_fits u) ∙ came_is_along u old.server.state new.server.state m.events m.outcomes m.run;
             taken_by_driver = λ u. m.moves (took_in (is_driver u)) (driver_took_in_event u) (driver_took_fits u);
           },
         ),
       ),
     )
-
--- What is recorded of the events.
-pub every_event_is_recorded : {S : Type 0} (calls : S → Reported) (failures : S → ℕ) → EveryEventIsRecorded calls failures
-every_event_is_recorded {S} calls failures = λ old new sockets after results max_age before turns recorded. from old new sockets after max_age before (turns_are_moved calls failures results old sockets new after turns) recorded
-  where
-    from : (old new : ServerState) (sockets after : S) (max_age : ℕ) (before : List Event) → Moves calls old sockets new after → (calls sockets).records max_age before
-        → (events : List Event) × ((outcomes : List Outcome) × Run old events outcomes new × (calls after).records max_age (before ++ events))
-    from old new sockets after max_age before m recorded =
-        (m.events, (m.outcomes, m.run, subst (λ es. (calls after).records max_age (before ++ es)) m.tells (m.grown.1 max_age before recorded)))

@@ -1,27 +1,25 @@
--- What holds between two looks at the system: everybody who is ready has a turn, and turns are few.
-use Rattle.std.specs.Prelude.{◌≡◌, ◌⊎◌, ◌+◌, ◌≤◌, Bool, true, false, List, [], ◌∷◌, length}
+-- What holds between two looks at the system: everybody who is ready has a turn, turns are few, and
+-- nobody who is ready is slept over.
+use Rattle.std.specs.Prelude.{◌≡◌, ◌⊎◌, ◌+◌, ◌≤◌, ℕ, Bool, false, List, [], ◌∷◌, length}
+use Rattle.std.specs.Prelude.{Option, Some, None}
+use Rattle.std.specs.List.{cons_option}
+use Rattle.nutcore.specs.Recording.{Recorded}
+use Rattle.nutcore.specs.Server.{ServerState}
 use Rattle.nutloop.specs.declared.over_mio.pass.Pass.{Pass}
 use Rattle.nutloop.specs.declared.over_mio.pass.Stop.{Stop}
 use Rattle.nutloop.specs.declared.over_mio.pass.TheConstants.{STOPS, TURNS_PER_LOOK}
-use Rattle.nutloop.specs.Pass.{HasTurn, IsOver, again, fresh, goes_on}
+use Rattle.nutloop.specs.declared.sockets.Ready.{Ready}
+use Rattle.nutloop.specs.declared.sockets.Ready.TheVariants.{Id}
+use Rattle.nutloop.specs.Pass.{HasNext, HasTurn, IsOver, fresh}
+use Rattle.nutloop.specs.Sockets.{Passing, Told}
+use Rattle.nutloop.specs.Turn.{IsTurn}
+use Rattle.nutloop.specs.Serving.{Running, before_turn, seen}
 
--- A turn without a look: one of this pass, or of the next one where the loop goes on without a look.
-abbrev pub HasNext : (Stop → Bool) → Pass → Stop → Pass → Type 0
-HasNext may old visited new =
-    HasTurn may old visited new
-    ⊎ ((mid : Pass) × IsOver may old mid × (goes_on mid ≡ true)
-    × HasTurn may (again mid) visited new)
-
--- A turn: who could have had it, who had it, and the pass after it.
+-- A turn of a peer or a newcomer: who could have had it, who had it, and the pass after it.
 pub record Turn : Type 0 where
   pub may : Stop → Bool
   pub visited : Stop
   pub pass : Pass
-
--- Turns, one after another, without a look.
-abbrev pub GoThrough : Pass → List Turn → Pass → Type 0
-GoThrough old [] new = new ≡ old
-GoThrough old (t ∷ ts) new = HasNext t.may old t.visited t.pass × GoThrough t.pass ts new
 
 abbrev pub HadTurn : Stop → List Turn → Type 0
 HadTurn s [] = ⊥
@@ -31,11 +29,64 @@ abbrev pub WasUnready : Stop → List Turn → Type 0
 WasUnready s [] = ⊥
 WasUnready s (t ∷ ts) = (t.may s ≡ false) ⊎ WasUnready s ts
 
--- From one look to the next, which comes only once a pass is over: whoever was ready all the while
--- had a turn, at the latest after so many others.
-pub record EverybodyHasATurn : Type 0 where
-  pub each : (turns : List Turn) (last over : Pass) (may : Stop → Bool) (s : Stop)
-      → GoThrough fresh turns last → IsOver may last over
-      → HadTurn s turns ⊎ (WasUnready s turns ⊎ (may s ≡ false))
-  pub few : (turns : List Turn) (last : Pass) → GoThrough fresh turns last
-      → length turns + 1 ≤ TURNS_PER_LOOK + STOPS
+abbrev pub turns_in : List (Option Turn) → List Turn
+turns_in [] = []
+turns_in (t ∷ ts) = cons_option t (turns_in ts)
+
+-- After a look: the turn of a peer that was ready then; or a tick, or there is nothing to do.
+abbrev pub BeginsWith : ServerState → Ready → Option Turn → Passing → Type 0
+BeginsWith s ready None new = new.pass ≡ fresh
+BeginsWith s ready (Some t) new =
+    (t.may ≡ new.may s) × (t.pass ≡ new.pass) × (ready ≡ new.ready_at s t.visited)
+    × HasTurn t.may fresh t.visited t.pass
+
+-- Without a look: the turn of a peer that was ready then, or an id is handed in.
+abbrev pub GoesOnWith : ServerState → Passing → Ready → Option Turn → Passing → Type 0
+GoesOnWith s old ready None new = ((id : ℕ) × (ready ≡ Id id)) × (new.pass ≡ old.pass)
+GoesOnWith s old ready (Some t) new =
+    (t.may ≡ old.may s) × (t.pass ≡ new.pass) × (ready ≡ old.ready_at s t.visited)
+    × HasNext t.may old.pass t.visited t.pass
+
+module _ {S R : Type 0} (told : S → Told) (holds : R → Recorded) where
+  -- A turn of serving that comes after a look,
+  pub record IsFirst (old : Running S R) (first : Option Turn) (new : Running S R) : Type 0 where
+    pub turn : IsTurn (before_turn told holds old) (seen told holds new)
+    pub is : Passing
+    pub found : turn.mid.passing ≡ Some is
+    pub begins : BeginsWith old.server.state turn.ready first is
+
+  -- and one that comes without.
+  pub record IsNext (old : Running S R) (next : Option Turn) (new : Running S R) : Type 0 where
+    pub turn : IsTurn (before_turn told holds old) (seen told holds new)
+    pub was : Passing
+    pub is : Passing
+    pub before : (told old.sockets).passing ≡ Some was
+    pub found : turn.mid.passing ≡ Some is
+    pub goes_on : GoesOnWith old.server.state was turn.ready next is
+
+  abbrev pub WithoutALook : Running S R → List (Option Turn) → Running S R → Type 0
+  WithoutALook old [] new = new ≡ old
+  WithoutALook old (t ∷ ts) new = (mid : Running S R) × IsNext old t mid × WithoutALook mid ts new
+
+  -- The turns from one look up to the next one, before which nobody has a turn any more.
+  pub record FromLookToLook (old : Running S R) (turns : List Turn) (new : Running S R) : Type 0 where
+    pub first : Option Turn
+    pub mid : Running S R
+    pub later : List (Option Turn)
+    pub is : Passing
+    pub begins : IsFirst old first mid
+    pub goes_on : WithoutALook mid later new
+    pub all : turns ≡ turns_in (first ∷ later)
+    pub before : (told new.sockets).passing ≡ Some is
+    pub over : IsOver (is.may new.server.state) is.pass is.pass
+
+  -- Whoever was ready all the while had a turn, at the latest after so many others. The next look
+  -- waits only where nobody is ready.
+  pub record EverybodyHasATurn : Type 0 where
+    pub each : (old new : Running S R) (turns : List Turn) (looks : FromLookToLook old turns new)
+        (s : Stop) → HadTurn s turns
+        ⊎ (WasUnready s turns ⊎ (looks.is.may new.server.state s ≡ false))
+    pub few : (old new : Running S R) (turns : List Turn) → FromLookToLook old turns new
+        → length turns + 1 ≤ TURNS_PER_LOOK + STOPS
+    pub awake : (old new : Running S R) (turns : List Turn) (looks : FromLookToLook old turns new)
+        (s : Stop) → looks.is.pass.had_turn ≡ false → looks.is.may new.server.state s ≡ false

@@ -17,23 +17,9 @@ use Rattle.nutloop.specs.declared.sockets.Call.{Call}
 use Rattle.nutloop.specs.declared.sockets.Call.TheVariants.{Gave, Wrote}
 use Rattle.nutloop.specs.declared.fault.LoopFault.{LoopFault}
 use Rattle.nutcore.specs.DriverOrders.{owed_to_driver}
-use Rattle.nutloop.specs.Sockets.{Reported}
-use Rattle.nutloop.specs.Turn.{TurnGives}
-
--- Turns, one after another, with the answer of each.
-abbrev pub Turns : {S : Type 0} → (S → Reported) → (S → ℕ) → ServerState → S
-    → List (Result (Unit {0}) LoopFault) → ServerState → S → Type 0
-Turns calls failures old sockets [] new after = (new ≡ old) × (after ≡ sockets)
-Turns {S} calls failures old sockets (r ∷ rs) new after =
-    (mid : ServerState)
-    × ((middle : S) × TurnGives calls failures old sockets r mid middle
-    × Turns calls failures mid middle rs new after)
-
-abbrev pub SomeTurns : {S : Type 0} → (S → Reported) → (S → ℕ) → ServerState → S → ServerState → S
-    → Type 0
-SomeTurns calls failures old sockets new after =
-    (results : List (Result (Unit {0}) LoopFault))
-    × Turns calls failures old sockets results new after
+use Rattle.nutcore.specs.Recording.{Recorded}
+use Rattle.nutloop.specs.Sockets.{Told}
+use Rattle.nutloop.specs.Serving.{Running, TurnsUpTo}
 
 -- It is this client, or this driver.
 abbrev pub is_client : ℕ → Peer → Bool
@@ -88,13 +74,13 @@ pub record AreMoved (since : List Call) (old : ServerState) (events : List Event
   pub taken_by_driver : (u : UpsId)
       → bytes_taken (is_driver u) since ≡ along (driver_took_in_event u) old events outcomes
 
--- Over any turns of sockets that report their calls.
-abbrev pub EveryByteIsMovedOnce : {S : Type 0} → (S → Reported) → (S → ℕ) → Type 0
-EveryByteIsMovedOnce {S} calls failures =
-    (old new : ServerState) (sockets after : S) (results : List (Result (Unit {0}) LoopFault))
-    (before now : List Call) → Turns calls failures old sockets results new after
-    → (calls sockets).answered ≡ Some before → (calls after).answered ≡ Some now
+-- Over any turns of serving, with sockets that report their calls.
+abbrev pub EveryByteIsMovedOnce : {S R : Type 0} → (S → Told) → (R → Recorded) → Type 0
+EveryByteIsMovedOnce {S} {R} told holds =
+    (old new : Running S R) (result : Result (Unit {0}) LoopFault) (before now : List Call)
+    → TurnsUpTo told holds old result new
+    → (told old.sockets).calls ≡ Some before → (told new.sockets).calls ≡ Some now
     → (since : List Call)
     × ((events : List Event)
     × ((outcomes : List Outcome) × (now ≡ before ++ since)
-    × AreMoved since old events outcomes new))
+    × AreMoved since old.server.state events outcomes new.server.state))

@@ -1,5 +1,6 @@
--- What the sockets over mio answer to `known` and `look`, and what they report beside the calls.
-use Rattle.std.specs.Prelude.{◌≡◌, ◌⊎◌, ℕ, ℤ, Bool, Option, if◌then◌else◌, slice_get, MatchOption}
+-- What the sockets over mio have ready, and what they report.
+use Rattle.std.specs.Prelude.{◌≡◌, ℕ, ℤ, Bool, Option, Some, None, if◌then◌else◌, slice_get}
+use Rattle.std.specs.Prelude.{MatchOption}
 use Rattle.std.specs.Option.{option_and_then, option_map_or}
 use Rattle.nutusers.specs.UpsList.{id_at}
 use Rattle.nutusers.specs.declared.ups_list.UpsId.{UpsId}
@@ -15,8 +16,8 @@ use Rattle.nutloop.specs.declared.over_mio.pass.Stop.{Stop}
 use Rattle.nutloop.specs.declared.over_mio.pass.Stop.TheVariants as stop
 use Rattle.nutloop.specs.declared.over_mio.pass.Way.{Way}
 use Rattle.nutloop.specs.declared.over_mio.pass.Way.TheVariants.{Read, Write}
-use Rattle.nutloop.specs.Fairness.{HasNext}
-use Rattle.nutloop.specs.Pass.{HasTurn, IsOver, fresh, may}
+use Rattle.nutloop.specs.Pass.{HasTurn, IsOver, may}
+use Rattle.nutloop.specs.Sockets.{Passing, Told}
 
 -- What may be done at a stop of these sockets.
 abbrev pub may_at : {R F : Type 0} → ServerState → MioSockets R F → Stop → Bool
@@ -46,21 +47,19 @@ GivesTurn s sockets old answer new =
     (λ turn. (visited : Stop) × (turn ≡ turn_at s sockets visited)
     × HasTurn (may_at s sockets) old visited new)
 
--- The next turn without a look, or the pass is over.
-abbrev pub AnswersKnown : {R F : Type 0} → ServerState → MioSockets R F → Option Ready
-    → MioSockets R F → Type 0
-AnswersKnown s old answer new =
-    MatchOption answer (IsOver (may_at s old) old.pass old.pass)
-    (λ turn. (visited : Stop) × (turn ≡ turn_at s old visited)
-    × HasNext (may_at s old) old.pass visited new.pass)
+-- How far these sockets have come, and what they report. The bytes that the system moves are not
+-- known.
+abbrev pub passing_of : {R F : Type 0} → MioSockets R F → Passing
+passing_of sockets =
+    record {
+      pass = sockets.pass;
+      may = λ s. may_at s sockets;
+      ready_at = λ s. turn_at s sockets;
+    }
 
--- After a look: a tick, or the first turn of a new pass, or nothing where nobody is ready.
-abbrev pub AnswersLook : {R F : Type 0} → ServerState → Ready → MioSockets R F → Type 0
-AnswersLook s answer new =
-    ((second : ℕ) × (answer ≡ ready.Tick second) × (new.pass ≡ fresh))
-    ⊎ (((visited : Stop) × (answer ≡ turn_at s new visited)
-    × HasTurn (may_at s new) fresh visited new.pass)
-    ⊎ ((answer ≡ ready.Nothing) × IsOver (may_at s new) fresh new.pass))
+abbrev pub told_of : {R F : Type 0} → MioSockets R F → Told
+told_of sockets =
+    record { calls = None; failures = sockets.failures; passing = Some (passing_of sockets) }
 
 -- How many newcomers were sent away, and the number of the error by which a driver couldn't be
 -- connected to.

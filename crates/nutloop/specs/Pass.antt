@@ -84,6 +84,7 @@ pub record HasTurn (may : Stop → Bool) (old : Pass) (visited : Stop) (new : Pa
   pub others : (s : Stop) → WasVisited new s → WasVisited old s ⊎ ((s ≡ visited) ⊎ (may s ≡ false))
   pub more : old.next < new.next
   pub within : new.next ≤ STOPS
+  pub had : new.had_turn ≡ true
   pub turns : new.turns ≡ min (old.turns + 1) (2 ^ 32 - 1)
 
 pub record IsOver (may : Stop → Bool) (old new : Pass) : Type 0 where
@@ -98,3 +99,10 @@ Visits may old None new = IsOver may old new
 -- fewer turns than these.
 abbrev pub goes_on : Pass → Bool
 goes_on pass = pass.had_turn && not pass.was_driver_read && nat_lt pass.turns TURNS_PER_LOOK
+
+-- A turn without a look: one of this pass, or of the next one where the loop goes on without a look.
+abbrev pub HasNext : (Stop → Bool) → Pass → Stop → Pass → Type 0
+HasNext may old visited new =
+    HasTurn may old visited new
+    ⊎ ((mid : Pass) × IsOver may old mid × (goes_on mid ≡ true)
+    × HasTurn may (again mid) visited new)

@@ -1,92 +1,94 @@
 -- Serving: turns one after another, up to the first that fails; and what holds of any turns.
-use Rattle.std.specs.Prelude.{◌≡◌, ℕ, zero, suc, List, [], ◌∷◌, ◌++◌, Result, Ok, Err, All}
-use Rattle.std.specs.Prelude.{replicate}
+use Rattle.std.specs.Prelude.{◌≡◌, ℕ, zero, suc, List, [], ◌∷◌, Result, Ok, Err, All, ◌++◌}
 use Rattle.std.specs.Fn.{Called, Mut}
 use denote.Ref.{Bor}
 use Rattle.nutcore.specs.declared.event.Event.{Event}
 use Rattle.nutcore.specs.declared.event.Outcome.{Outcome}
-use Rattle.nutcore.specs.Server.{ServerState}
-use Rattle.nutcore.specs.Cost.{RunningServer}
+use Rattle.nutcore.specs.declared.note.Note.{Note}
+use Rattle.nutcore.specs.Cost.{RunningServer, begun}
 use Rattle.nutcore.specs.Run.{Run}
-use Rattle.nutcore.specs.ReadsBack.{HasLawfulAddress}
+use Rattle.nutcore.specs.NotedRuns.{notes_along}
 use Rattle.nutcore.specs.Addresses.{OpensLawfully}
+use Rattle.nutcore.specs.Recording.{Recorded, Continues}
 use Rattle.nutloop.specs.declared.fault.LoopFault.{LoopFault}
 use Rattle.nutloop.specs.declared.serving.TheConstants.{TURN_LIMIT}
-use Rattle.nutloop.specs.Sockets.{Reported}
-use Rattle.nutloop.specs.Turn.{TurnGives}
-use Rattle.nutloop.specs.Moved.{Turns}
+use Rattle.nutloop.specs.Sockets.{Told}
+use Rattle.nutloop.specs.Turn.{LoopState, IsTurn, TurnGives, around}
 
--- Turns that ended well, and then one with this fault; or as many that ended well as are made.
-abbrev pub TurnsUpTo : {S : Type 0} → (S → Reported) → (S → ℕ) → ServerState → S
-    → Result (Unit {0}) LoopFault → ServerState → S → Type 0
-TurnsUpTo calls failures old sockets (Ok u) new after =
-    (n : ℕ) × (n ≡ TURN_LIMIT) × Turns calls failures old sockets (replicate n (Ok tt)) new after
-TurnsUpTo calls failures old sockets (Err fault) new after =
-    (n : ℕ) × Turns calls failures old sockets (replicate n (Ok tt) ++ Err fault ∷ []) new after
+-- A server, its sockets and its record.
+pub record Running (S R : Type 0) : Type 0 where
+  pub server : RunningServer
+  pub sockets : S
+  pub kept : R
 
--- The watcher is called with this server and these sockets, and is this one then.
-pub record IsShown {W S : Type 0} (g : Mut W (Bor RunningServer × (Bor S × Unit {0})) (Unit {0}))
-    (watcher : W) (server : RunningServer) (sockets : S) (next : W) : Type 0 where
+abbrev pub running : {S R : Type 0} → RunningServer → S → R → Running S R
+running server sockets kept = record { server = server; sockets = sockets; kept = kept }
+
+module _ {S R : Type 0} (told : S → Told) (holds : R → Recorded) where
+  abbrev pub seen : Running S R → LoopState
+  seen r = around r.server (told r.sockets) (holds r.kept)
+
+  -- Before each turn what earlier ones noted is forgotten.
+  abbrev pub before_turn : Running S R → LoopState
+  before_turn r = around (begun r.server.state) (told r.sockets) (holds r.kept)
+
+  -- So many turns that end well, one after another.
+  abbrev pub Turns : Running S R → ℕ → Running S R → Type 0
+  Turns old zero new = new ≡ old
+  Turns old (suc n) new =
+      (mid : Running S R) × IsTurn (before_turn old) (seen mid) × Turns mid n new
+
+  -- So many turns that end well. After each the watcher is shown the server with what the turn
+  -- noted, the sockets and the record: these notes in all.
+  abbrev pub ShownTurns : {W : Type 0} → (W → Running S R → W → Type 0)
+      → Running S R → W → ℕ → List Note → Running S R → W → Type 0
+  ShownTurns shows old watcher zero notes new last =
+      (new ≡ old) × ((last ≡ watcher) × (notes ≡ []))
+  ShownTurns {W} shows old watcher (suc n) notes new last =
+      (mid : Running S R) × ((next : W) × ((more : List Note)
+      × (notes ≡ mid.server.notes ++ more) × IsTurn (before_turn old) (seen mid)
+      × shows watcher mid next × ShownTurns shows mid next n more new last))
+
+  -- How turns end: with this fault, or as many ended well as are made.
+  abbrev pub Ends : ℕ → Running S R → Result (Unit {0}) LoopFault → Running S R → Type 0
+  Ends n old (Ok u) new = (n ≡ TURN_LIMIT) × (new ≡ old)
+  Ends n old (Err fault) new = TurnGives (before_turn old) (Err fault) (seen new)
+
+  -- They are one run of the server: its events are recorded, and all that they noted is shown, each
+  -- event's notes once and in order. Sessions are opened only from lawful addresses.
+  pub record IsOneRun (old : Running S R) (notes : List Note) (new : Running S R) : Type 0 where
+    pub events : List Event
+    pub outcomes : List Outcome
+    pub run : Run old.server.state events outcomes new.server.state
+    pub opens : All OpensLawfully events
+    pub recorded : Continues (holds old.kept) events (holds new.kept)
+    pub noted : notes ≡ notes_along old.server.state events outcomes
+
+-- The watcher is called with this server, these sockets and this record, and is this one then.
+pub record IsShown {W S R : Type 0}
+    (g : Mut W (Bor RunningServer × (Bor S × (Bor R × Unit {0}))) (Unit {0}))
+    (watcher : W) (shown : Running S R) (next : W) : Type 0 where
   pub first : Bor RunningServer
   pub second : Bor S
-  pub shows : (first.now ≡ server) × (second.now ≡ sockets)
-  pub called : Called g watcher (first, (second, tt)) tt next
+  pub third : Bor R
+  pub server : first.now ≡ shown.server
+  pub sockets : second.now ≡ shown.sockets
+  pub kept : third.now ≡ shown.kept
+  pub called : Called g watcher (first, (second, (third, tt))) tt next
 
--- So many turns that ended well, one after another. After each the watcher is shown the server and
--- the sockets.
-abbrev pub ShownTurns : {S W : Type 0} → (S → Reported) → (S → ℕ)
-    → (W → RunningServer → S → W → Type 0) → ℕ → ServerState → S → W → ServerState → S → W → Type 0
-ShownTurns calls failures shows zero old sockets watcher new after last =
-    (new ≡ old) × (after ≡ sockets) × (last ≡ watcher)
-ShownTurns {S} {W} calls failures shows (suc n) old sockets watcher new after last =
-    (mid : RunningServer)
-    × ((middle : S)
-    × ((next : W) × TurnGives calls failures old sockets (Ok tt) mid.state middle
-    × shows watcher mid middle next
-    × ShownTurns calls failures shows n mid.state middle next new after last))
+-- The turns of serving without what is shown of them.
+abbrev pub TurnsUpTo : {S R : Type 0} → (S → Told) → (R → Recorded) → Running S R
+    → Result (Unit {0}) LoopFault → Running S R → Type 0
+TurnsUpTo {S} {R} told holds old result new =
+    (n : ℕ) × ((mid : Running S R) × Turns told holds old n mid × Ends told holds n mid result new)
 
--- The watcher is shown the server and the sockets after each turn that ended well, and not after
--- one that failed.
-abbrev pub ShownUpTo : {S W : Type 0} → (S → Reported) → (S → ℕ)
-    → (W → RunningServer → S → W → Type 0) → ServerState → S → W → Result (Unit {0}) LoopFault
-    → ServerState → S → Type 0
-ShownUpTo {S} {W} calls failures shows old sockets watcher (Ok u) new after =
-    (n : ℕ)
-    × ((last : W) × (n ≡ TURN_LIMIT)
-    × ShownTurns calls failures shows n old sockets watcher new after last)
-ShownUpTo {S} {W} calls failures shows old sockets watcher (Err fault) new after =
-    (n : ℕ)
-    × ((mid : ServerState)
-    × ((middle : S)
-    × ((last : W) × ShownTurns calls failures shows n old sockets watcher mid middle last
-    × TurnGives calls failures mid middle (Err fault) new after)))
-
--- Some events lead there, which open sessions only from lawful addresses.
-abbrev pub IsOneRun : ServerState → ServerState → Type 0
-IsOneRun old new =
-    (events : List Event)
-    × ((outcomes : List Outcome) × Run old events outcomes new × All OpensLawfully events)
-
--- Any turns are one run of the server, also those of sockets that don't report their calls.
-abbrev pub AnyTurnsAreOneRun : {S : Type 0} → (S → Reported) → (S → ℕ) → Type 0
-AnyTurnsAreOneRun {S} calls failures =
-    (old new : ServerState) (sockets after : S) (results : List (Result (Unit {0}) LoopFault))
-    → Turns calls failures old sockets results new after → IsOneRun old new
-
--- Over any turns, the record of some events of a server becomes one of these and of the events of one
--- run, each once and in order.
-abbrev pub EveryEventIsRecorded : {S : Type 0} → (S → Reported) → (S → ℕ) → Type 0
-EveryEventIsRecorded {S} calls failures =
-    (old new : ServerState) (sockets after : S) (results : List (Result (Unit {0}) LoopFault))
-    (max_age : ℕ) (before : List Event) → Turns calls failures old sockets results new after
-    → (calls sockets).records max_age before
-    → (events : List Event)
-    × ((outcomes : List Outcome) × Run old events outcomes new
-    × (calls after).records max_age (before ++ events))
-
-abbrev pub AnyTurnsKeepAddressesLawful : {S : Type 0} → (S → Reported) → (S → ℕ)
-    → Type 0
-AnyTurnsKeepAddressesLawful {S} calls failures =
-    (old new : ServerState) (sockets after : S) (results : List (Result (Unit {0}) LoopFault))
-    → Turns calls failures old sockets results new after → All HasLawfulAddress old.sessions
-    → All HasLawfulAddress new.sessions
+-- What serving does: turns up to the first that fails, of which the watcher is shown those that
+-- ended well. They are one run of the server, whatever the sockets do.
+pub record Serves {S R W : Type 0} (told : S → Told) (holds : R → Recorded)
+    (shows : W → Running S R → W → Type 0) (old : Running S R) (watcher : W)
+    (result : Result (Unit {0}) LoopFault) (new : Running S R) : Type 0 where
+  pub turns : TurnsUpTo told holds old result new
+  pub notes : List Note
+  pub last : W
+  pub shown : ShownTurns told holds shows old watcher turns.0 notes turns.1.0 last
+  pub run : IsOneRun told holds old notes new

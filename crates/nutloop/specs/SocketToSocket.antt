@@ -17,8 +17,10 @@ use Rattle.nutcore.specs.OrdersByRight.{all_given}
 use Rattle.nutcore.specs.Sound.{IsSound}
 use Rattle.nutloop.specs.declared.sockets.Call.{Call}
 use Rattle.nutloop.specs.declared.fault.LoopFault.{LoopFault}
-use Rattle.nutloop.specs.Sockets.{Reported}
-use Rattle.nutloop.specs.Moved.{Turns, is_client, is_driver, bytes_given, bytes_taken}
+use Rattle.nutcore.specs.Recording.{Recorded}
+use Rattle.nutloop.specs.Sockets.{Told}
+use Rattle.nutloop.specs.Serving.{Running, TurnsUpTo}
+use Rattle.nutloop.specs.Moved.{is_client, is_driver, bytes_given, bytes_taken}
 
 -- Of one client and what was executed for it: all that its socket gave is the executed lines, in
 -- order, followed by what is held of it; and what its socket took, followed by what it is owed, is
@@ -44,13 +46,14 @@ pub record AreAnswered (since : List Call) (old new : ServerState) : Type 0 wher
   pub timely : All (IsTimely old events outcomes) (executions old events outcomes)
   pub answered : (c : ℕ) → IsAnswered c since (of_client c (executions old events outcomes)) new
 
--- Over any turns from a new server, of sockets that report their calls.
-abbrev pub WhatASocketGaveIsAnswered : {S : Type 0} → (S → Reported) → (S → ℕ) → Type 0
-WhatASocketGaveIsAnswered {S} calls failures =
-    (old new : ServerState) (sockets after : S) (results : List (Result (Unit {0}) LoopFault))
-    (before now : List Call) → IsNewServer old → Turns calls failures old sockets results new after
-    → (calls sockets).answered ≡ Some before → (calls after).answered ≡ Some now
-    → (since : List Call) × (now ≡ before ++ since) × AreAnswered since old new
+-- Over any turns of serving from a new server, with sockets that report their calls.
+abbrev pub WhatASocketGaveIsAnswered : {S R : Type 0} → (S → Told) → (R → Recorded) → Type 0
+WhatASocketGaveIsAnswered {S} {R} told holds =
+    (old new : Running S R) (result : Result (Unit {0}) LoopFault) (before now : List Call)
+    → IsNewServer old.server.state → TurnsUpTo told holds old result new
+    → (told old.sockets).calls ≡ Some before → (told new.sockets).calls ≡ Some now
+    → (since : List Call) × (now ≡ before ++ since)
+    × AreAnswered since old.server.state new.server.state
 
 -- Of one driver in a run: what was unfinished of it, followed by all that its socket gave, is its
 -- executed lines, followed by what is unfinished, and its report is what these lines made of it.
@@ -73,11 +76,11 @@ pub record DriversAreServedByTheirSockets (since : List Call) (old new : ServerS
   pub each : (u : UpsId) → StaysConnected u old events outcomes
       → IsServedByItsSocket u since old events outcomes new
 
--- Over any turns from a sound server, as each is, of sockets that report their calls.
-abbrev pub ADriverIsServedByItsSocket : {S : Type 0} → (S → Reported) → (S → ℕ)
-    → Type 0
-ADriverIsServedByItsSocket {S} calls failures =
-    (old new : ServerState) (sockets after : S) (results : List (Result (Unit {0}) LoopFault))
-    (before now : List Call) → IsSound old → Turns calls failures old sockets results new after
-    → (calls sockets).answered ≡ Some before → (calls after).answered ≡ Some now
-    → (since : List Call) × (now ≡ before ++ since) × DriversAreServedByTheirSockets since old new
+-- Over any turns of serving from a sound server, as each is, with sockets that report their calls.
+abbrev pub ADriverIsServedByItsSocket : {S R : Type 0} → (S → Told) → (R → Recorded) → Type 0
+ADriverIsServedByItsSocket {S} {R} told holds =
+    (old new : Running S R) (result : Result (Unit {0}) LoopFault) (before now : List Call)
+    → IsSound old.server.state → TurnsUpTo told holds old result new
+    → (told old.sockets).calls ≡ Some before → (told new.sockets).calls ≡ Some now
+    → (since : List Call) × (now ≡ before ++ since)
+    × DriversAreServedByTheirSockets since old.server.state new.server.state

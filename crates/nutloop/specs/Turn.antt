@@ -16,6 +16,9 @@ use Rattle.nutcore.specs.declared.event.Peer.TheVariants.{Client, Driver}
 use Rattle.nutcore.specs.Server.{ServerState, session}
 use Rattle.nutcore.specs.Step.{offered}
 use Rattle.nutcore.specs.Run.{Run}
+use Rattle.nutcore.specs.Cost.{RunningServer}
+use Rattle.nutcore.specs.Notes.{notes_of}
+use Rattle.nutcore.specs.Recording.{Recorded, Continues}
 use Rattle.nutcore.specs.Calls.{room_of, is_finished}
 use Rattle.nutcore.specs.DriverHistory.{has_driver}
 use Rattle.nutcore.specs.DriverOrders.{owed_to_driver}
@@ -23,13 +26,23 @@ use Rattle.nutloop.specs.declared.sockets.Ready.{Ready}
 use Rattle.nutloop.specs.declared.sockets.Ready.TheVariants.{Nothing, Tick, Newcomer, Id}
 use Rattle.nutloop.specs.declared.sockets.Ready.TheVariants.{DriverUp, Read, Write}
 use Rattle.nutloop.specs.declared.sockets.Call.{Call}
-use Rattle.nutloop.specs.declared.sockets.Call.TheVariants.{Readied, Accepted, Named, Refused, Gave}
-use Rattle.nutloop.specs.declared.sockets.Call.TheVariants.{Waits, Ended, Wrote, Shut, Happens}
+use Rattle.nutloop.specs.declared.sockets.Call.TheVariants.{Accepted, Named, Refused, Gave}
+use Rattle.nutloop.specs.declared.sockets.Call.TheVariants.{Waits, Ended, Wrote, Shut}
 use Rattle.nutloop.specs.declared.fault.LoopFault.{LoopFault}
 use Rattle.nutloop.specs.declared.fault.LoopFault.TheVariants as fault
 use Rattle.nutloop.specs.declared.turns.TheConstants.{DRIVER_READ_LIMIT}
 use Rattle.nutio.specs.Ends.{counted}
-use Rattle.nutloop.specs.Sockets.{Reported, Grows}
+use Rattle.nutloop.specs.Sockets.{Told, Answers, FailsToLook, IsFound, Readies, Reports, none_failed}
+
+-- The loop as its laws see it: the server, what the sockets report, and what is recorded.
+pub record LoopState : Type 1 where
+  pub server : RunningServer
+  pub sockets : Told
+  pub record_of : Recorded
+
+abbrev pub around : RunningServer → Told → Recorded → LoopState
+around server sockets holds =
+    record { server = server; sockets = sockets; record_of = holds }
 
 -- The one call that a row makes of the sockets and that may fail, if it makes one: reads has how
 -- many bytes are asked for, writes which ones are offered.
@@ -156,70 +169,75 @@ loses_driver _ = false
 -- opened; who is gone is shut, and so is a driver that is lost by what it sent.
 abbrev pub calls_behind : Event → Outcome → List Call
 calls_behind (event.Open address) (outcome.Opened c) = Named c ∷ []
-calls_behind (event.Open address) (outcome.Refused fault) = Refused ∷ []
+calls_behind (event.Open address) _ = Refused ∷ []
 calls_behind (event.Close c) _ = Shut (Client c) ∷ []
 calls_behind (event.DriverDown u) _ = Shut (Driver u) ∷ []
 calls_behind (event.DriverBytes u piece) (outcome.Refused fault) =
     if loses_driver fault then Shut (Driver u) ∷ [] else []
 calls_behind _ _ = []
 
--- Each event is reported, and then the calls after it.
+-- The calls after each of the events.
 abbrev pub calls_behind_all : List Event → List Outcome → List Call
 calls_behind_all [] os = []
 calls_behind_all (e ∷ es) [] = []
-calls_behind_all (e ∷ es) (o ∷ os) = Happens e ∷ (calls_behind e o ++ calls_behind_all es os)
+calls_behind_all (e ∷ es) (o ∷ os) = calls_behind e o ++ calls_behind_all es os
 
--- These events were done, with the calls after them, and no call failed.
-pub record Does {S : Type 0} (calls : S → Reported) (failures : S → ℕ)
-    (events : List Event) (old : ServerState) (sockets : S) (new : ServerState) (after : S)
-    : Type 0 where
+-- What is noted then: what the one event notes, and without an event what was noted before.
+abbrev pub AreNoted : RunningServer → List Event → List Outcome → RunningServer → Type 0
+AreNoted old [] [] new = new.notes ≡ old.notes
+AreNoted old (e ∷ []) (o ∷ []) new = new.notes ≡ notes_of old.state e o
+AreNoted old events outcomes new = ⊥
+
+-- These events were recorded and done, with the calls after them, and no call failed.
+pub record Does (events : List Event) (old new : LoopState) : Type 0 where
   pub outcomes : List Outcome
-  pub run : Run old events outcomes new
-  pub reported : Grows (calls sockets) (calls after) (calls_behind_all events outcomes)
-  pub count : failures after ≡ failures sockets
+  pub run : Run old.server.state events outcomes new.server.state
+  pub noted : AreNoted old.server events outcomes new.server
+  pub recorded : Continues old.record_of events new.record_of
+  pub reported : Answers old.sockets (calls_behind_all events outcomes) new.sockets
 
 abbrev pub failures_by : Answer → ℕ → ℕ
 failures_by failed n = counted n
 failures_by _ n = n
 
--- A row is done, after what was reported before it: its call is answered, then its events are done,
--- with the calls after them.
-pub record IsRow {S : Type 0} (calls : S → Reported) (failures : S → ℕ)
-    (before : List Call) (ready : Ready) (old : ServerState) (sockets : S) (new : ServerState)
-    (after : S) : Type 0 where
+-- A row is done: its call is answered, then its events are done, with the calls after them.
+pub record IsRow (ready : Ready) (old new : LoopState) : Type 0 where
   pub answer : Answer
-  pub outcomes : List Outcome
-  pub may : MayAnswer (ask old ready) answer
-  pub run : Run old (row_events old ready answer) outcomes new
-  pub reported : Grows (calls sockets) (calls after)
-      ((before ++ answered (ask old ready) answer)
-      ++ calls_behind_all (row_events old ready answer) outcomes)
-  pub count : failures after ≡ failures_by answer (failures sockets)
+  pub may : MayAnswer (ask old.server.state ready) answer
+  pub mid : Told
+  pub called : Reports (failures_by answer) old.sockets (answered (ask old.server.state ready) answer) mid
+  pub does : Does (row_events old.server.state ready answer) (record old { sockets = mid }) new
 
--- A call of the loop failed: only what was answered before it is reported, and the server is as it
--- was.
-pub record Fails {S : Type 0} (calls : S → Reported) (failures : S → ℕ)
-    (before : List Call) (old : ServerState) (sockets : S) (new : ServerState) (after : S)
-    : Type 0 where
-  pub reported : Grows (calls sockets) (calls after) before
-  pub count : failures after ≡ counted (failures sockets)
-  pub same : new ≡ old
+-- A turn that ends well: what is ready is found, and its row is done.
+pub record IsTurn (old new : LoopState) : Type 0 where
+  pub ready : Ready
+  pub mid : Told
+  pub found : Readies (λ a b. IsFound old.server.state ready a b) old.sockets ready mid
+  pub row : IsRow ready (record old { sockets = mid }) new
+
+-- The server is as it was, and so is what is recorded of it.
+pub record IsLeft (old new : LoopState) : Type 0 where
+  pub server : new.server ≡ old.server
+  pub recorded : Continues old.record_of [] new.record_of
+
+-- What is ready is found, or the look fails.
+abbrev pub ReadyGives : ServerState → Told → Result Ready LoopFault → Told → Type 0
+ReadyGives s old (Ok ready) new = Readies (λ a b. IsFound s ready a b) old ready new
+ReadyGives s old (Err fault.Ready) new = FailsToLook old new
+ReadyGives s old (Err fault.Accept) new = ⊥
 
 -- A newcomer's row, or `accept` fails.
-abbrev pub NewcomerGives : {S : Type 0} → (S → Reported) → (S → ℕ) → ServerState → S
-    → Result (Unit {0}) LoopFault → ServerState → S → Type 0
-NewcomerGives calls failures old sockets (Ok u) new after =
-    IsRow calls failures [] Newcomer old sockets new after
-NewcomerGives calls failures old sockets (Err fault.Ready) new after = ⊥
-NewcomerGives calls failures old sockets (Err fault.Accept) new after =
-    Fails calls failures [] old sockets new after
+abbrev pub NewcomerGives : LoopState → Result (Unit {0}) LoopFault → LoopState → Type 0
+NewcomerGives old (Ok u) new = IsRow Newcomer old new
+NewcomerGives old (Err fault.Ready) new = ⊥
+NewcomerGives old (Err fault.Accept) new =
+    IsLeft old new × Reports counted old.sockets [] new.sockets
 
--- A turn: `ready` is asked once, and then one row is done; or `ready` fails, or `accept` after it.
-abbrev pub TurnGives : {S : Type 0} → (S → Reported) → (S → ℕ) → ServerState → S
-    → Result (Unit {0}) LoopFault → ServerState → S → Type 0
-TurnGives calls failures old sockets (Ok u) new after =
-    (ready : Ready) × IsRow calls failures (Readied ready ∷ []) ready old sockets new after
-TurnGives calls failures old sockets (Err fault.Ready) new after =
-    Fails calls failures [] old sockets new after
-TurnGives calls failures old sockets (Err fault.Accept) new after =
-    Fails calls failures (Readied Newcomer ∷ []) old sockets new after
+-- A turn: it ends well; or the look fails, or `accept` of a newcomer that was found.
+abbrev pub TurnGives : LoopState → Result (Unit {0}) LoopFault → LoopState → Type 0
+TurnGives old (Ok u) new = IsTurn old new
+TurnGives old (Err fault.Ready) new = IsLeft old new × FailsToLook old.sockets new.sockets
+TurnGives old (Err fault.Accept) new =
+    IsLeft old new
+    × ((mid : Told) × Readies (λ a b. IsFound old.server.state Newcomer a b) old.sockets Newcomer mid
+    × Reports counted mid [] new.sockets)

@@ -1,10 +1,10 @@
 //! The sockets over `mio`: clients come over TCP, and drivers are connected to over Unix sockets.
-ghost use Rattle.std.specs.Prelude.{◌≡◌, ◌*◌, ◌-◌, ◌∷◌, [], IfOk, None};
+ghost use Rattle.std.specs.Prelude.{◌≡◌, ◌*◌, ◌-◌, ◌∷◌, [], IfOk, Some, true};
 ghost use Rattle.nutio.specs.Ends.{IsCounted, counted};
-ghost use Rattle.nutloop.specs.Sockets.{Grows, nothing_reported};
+ghost use Rattle.nutloop.specs.Sockets.{Answers, Begins, Knows};
 ghost use Rattle.std.specs.Duration.{as_nanos};
-ghost use Rattle.nutloop.specs.Clock.{Ticks, next_second, tick_in};
-ghost use Rattle.nutloop.specs.OverMio.{AnswersKnown, AnswersLook, GivesTurn, error_of, refused};
+ghost use Rattle.nutloop.specs.Clock.{Ticks, due_tick, next_second, tick_in};
+ghost use Rattle.nutloop.specs.OverMio.{GivesTurn, error_of, passing_of, refused, told_of};
 ghost use Rattle.nutloop.specs.declared.sockets.Call.TheVariants.{Refused};
 
 mod clients;
@@ -25,7 +25,7 @@ use door::Door;
 use drivers::{Driver, Drivers, connect, socket_of};
 use mio::{Events, Poll};
 use nut_bytes::keep;
-use nutcore::{ClientId, Event, Peer, Server, UpsId};
+use nutcore::{ClientId, Peer, Server, Standing, UpsId};
 use nutwords::Address;
 use pass::{Pass, Stop, Way};
 use std::alloc::Global;
@@ -134,10 +134,19 @@ impl<'a, R: Net + Clock, F: Read + Drop> MioSockets<'a, R, F> {
         [self.refusals, self.cut_off, self.door.failures]
     }
 
+    /// The next id, if one is due.
+    fn next_id(&mut self) -> Option<u128>
+        ensures { self.new ≡ record self.old { ids = self.new.ids } }
+    {
+        match &mut self.ids {
+            Some(ids) => ids.next(),
+            None => None,
+        }
+    }
+
     /// The next turn without a look: what this pass has left, or the next one.
     fn next_turn(&mut self, server: &Server) -> Option<Ready>
-        ensures answers { AnswersKnown server.now.state self.old result self.new }
-        ensures failures { self.new.failures ≡ self.old.failures }
+        ensures { Knows (told_of self.old) server.now.state result (told_of self.new) }
     {
         if let Some(ready) = self.visit(server) {
             return Some(ready);
@@ -181,29 +190,29 @@ impl<'a, R: Net + Clock, F: Read + Drop> MioSockets<'a, R, F> {
     /// Asks the system, and waits for it up to the next tick where nobody had a turn; and the
     /// clock. A tick, where the second is a new one, or else the first turn of a new pass.
     fn first_turn(&mut self, server: &Server) -> io::Result<Ready>
-        ensures answers { IfOk result (λ ready.
-            AnswersLook server.now.state ready self.new) }
+        ensures begins { IfOk result (λ ready.
+            Begins server.now.state ready (Some (passing_of self.new))) }
         ensures tick { IfOk result (λ ready.
             Ticks (tick_in ready) self.old.second self.new.second) }
         ensures failures { self.new.failures ≡ self.old.failures }
     {
         let is_left = self.closing.iter().any(|one| one.socket.readable);
-        let wait = if self.pass.had_turn || is_left {
+        let most = if self.pass.had_turn || is_left {
             Duration::ZERO
         } else {
             up_to_tick(self.second, self.start.elapsed(self.rt)?)
         };
-        self.poll.poll(&mut self.events, Some(wait))?;
+        self.wait(most)?;
         self.hear();
         self.pass = Pass::default();
-        let second = self.start.elapsed(self.rt)?.as_secs();
+        let now = self.start.elapsed(self.rt)?.as_secs();
         if !self.closing.is_empty() {
             self.closing
-                .retain_mut(|connection| connection.goes_on(second));
+                .retain_mut(|connection| connection.goes_on(now));
         }
-        if second <= self.second {
+        let Some(second) = due_tick(self.second, now) else {
             return Ok(self.visit(server).unwrap_or(Ready::Nothing));
-        }
+        };
         self.second = second;
         if let Some(ids) = &mut self.ids {
             ids.tick();
@@ -211,6 +220,17 @@ impl<'a, R: Net + Clock, F: Read + Drop> MioSockets<'a, R, F> {
         self.door.is_knocked_at = true;
         connect(self.rt, self.poll.registry(), &mut self.drivers, server);
         Ok(Ready::Tick(second))
+    }
+
+    /// Asks the system what is ready, and waits for it so long. Where somebody had a turn in the pass
+    /// it does not wait: others may be ready.
+    fn wait(&mut self, most: Duration) -> io::Result<()>
+        requires idle { self.old.pass.had_turn ≡ true → as_nanos most ≡ 0 }
+        ensures { self.new
+            ≡ record self.old { poll = self.new.poll; events = self.new.events } }
+    {
+        self.poll.poll(&mut self.events, Some(most))?;
+        Ok(())
     }
 
     /// Notes what the system reports.
@@ -247,6 +267,7 @@ impl<'a, R: Net + Clock, F: Read + Drop> MioSockets<'a, R, F> {
     /// A call failed: it is counted.
     fn count<T>(&mut self, answer: Result<T, Broken>) -> Result<T, Broken>
         ensures same { result ≡ answer }
+        ensures rest { self.new ≡ record self.old { failures = self.new.failures } }
         ensures count { IsCounted self.old.failures self.new.failures answer }
     {
         if answer.is_err() {
@@ -263,23 +284,22 @@ fn up_to_tick(second: u64, elapsed: Duration) -> Duration
     Duration::from_secs(second.saturating_add(1)).saturating_sub(elapsed)
 }
 
-impl<'a, R: Net + Clock, F: Read + Drop> Sockets for MioSockets<'a, R, F> {
-    ghost calls = { λ _. nothing_reported };
+/// The second of the tick that is due, where the last one was at this second.
+fn due_tick(last: u64, now: u64) -> Option<u64>
+    ensures { result ≡ due_tick last now }
+{
+    (last < now).then_some(now)
+}
 
-    ghost failures = { λ s. s.failures };
+impl<'a, R: Net + Clock, F: Read + Drop> Sockets for MioSockets<'a, R, F> {
+    ghost told = { told_of };
 
     /// An id that is due, or the next turn.
     fn known(&mut self, server: &Server) -> Option<Ready> {
-        if let Some(ids) = &mut self.ids {
-            if let Some(id) = ids.next() {
-                return Some(Ready::Id(id));
-            }
+        match self.next_id() {
+            Some(id) => Some(Ready::Id(id)),
+            None => self.next_turn(server),
         }
-        // What a client is owed changes only by its own turns.
-        if let Some(Some(client)) = self.clients.get_mut(self.here) {
-            client.standing = server.standing(client.id).unwrap_or_default();
-        }
-        self.next_turn(server)
     }
 
     fn look(&mut self, server: &Server) -> Result<Ready, Broken> {
@@ -299,8 +319,7 @@ impl<'a, R: Net + Clock, F: Read + Drop> Sockets for MioSockets<'a, R, F> {
     }
 
     fn refuse(&mut self)
-        ensures reported { Grows nothing_reported nothing_reported (Refused ∷ []) }
-        ensures count { self.new.failures ≡ self.old.failures }
+        ensures told { Answers (told_of self.old) (Refused ∷ []) (told_of self.new) }
         ensures refused { refused self.new ≡ counted (refused self.old) }
     {
         let _refused = self.door.newcomer.take();
@@ -363,7 +382,9 @@ impl<'a, R: Net + Clock, F: Read + Drop> Sockets for MioSockets<'a, R, F> {
         }
     }
 
-    fn happens(&mut self, _event: Event) {}
-
-    fn comes(&mut self, _from: Peer, _bytes: &[u8]) {}
+    fn had_turn(&mut self, c: ClientId, standing: Standing) {
+        if let Some(Some(client)) = slot_of(&mut self.clients, self.here, c) {
+            client.standing = standing;
+        }
+    }
 }

@@ -1,36 +1,35 @@
 //! Serving: turns one after another.
-ghost use Rattle.nutloop.specs.Serving.{IsOneRun, IsShown, ShownUpTo, TurnsUpTo};
+ghost use Rattle.nutloop.specs.Serving.{IsShown, Serves, running};
 
 use crate::{LoopFault, Sockets, turn};
-use nutcore::Server;
+use nutcore::{Record, Server};
 
 /// The most turns that one call makes.
 pub const TURN_LIMIT: u64 = u64::MAX;
 
 /// Makes turns one after another, up to the first that fails. After each that ended well the
-/// watcher is shown the server and the sockets, and the notes that it was shown are forgotten.
+/// watcher is shown the server with the notes of that turn, the sockets and the record.
 ///
 /// # Errors
 ///
 /// The fault of the last turn.
-pub fn serve<S: Sockets, W: FnMut(&Server, &S)>(
+pub fn serve<S: Sockets, R: Record, W: FnMut(&Server, &S, &R)>(
     server: &mut Server,
     sockets: &mut S,
+    recorder: &mut R,
     mut watch: W,
 ) -> Result<(), LoopFault>
     requires { W.IsAlwaysCallable watch }
-    ensures turns { TurnsUpTo S.calls S.failures
-        server.old.state sockets.old result server.new.state sockets.new }
-    ensures shown { ShownUpTo S.calls S.failures (IsShown W.FnMut)
-        server.old.state sockets.old watch result server.new.state sockets.new }
-    ensures run { IsOneRun server.old.state server.new.state }
+    ensures { Serves S.told R.holds (IsShown W.FnMut)
+        (running server.old sockets.old recorder.old) watch
+        result (running server.new sockets.new recorder.new) }
 {
     for _ in 0..TURN_LIMIT {
-        if let Err(fault) = turn(server, sockets) {
+        server.forget();
+        if let Err(fault) = turn(server, sockets, recorder) {
             return Err(fault);
         }
-        watch(server, sockets);
-        server.forget();
+        watch(server, sockets, recorder);
     }
     Ok(())
 }

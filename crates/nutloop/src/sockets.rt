@@ -1,10 +1,9 @@
 //! The sockets of all peers, as a turn sees them.
-ghost use Rattle.std.specs.Prelude.{◌≡◌, ◌≤◌, ◌∷◌, [], ℕ, length, IfOk};
-ghost use Rattle.nutloop.specs.declared.sockets.Call.TheVariants.{Readied, Accepted, Named, Refused, Wrote, Shut, Happens};
-ghost use Rattle.nutio.specs.Ends.{IsCounted};
-ghost use Rattle.nutloop.specs.Sockets.{Reported, Grows, ReportsCall, AtMost, came_from, read_call, readied};
+ghost use Rattle.std.specs.Prelude.{◌≤◌, ◌∷◌, [], length, IfOk};
+ghost use Rattle.nutloop.specs.declared.sockets.Call.TheVariants.{Accepted, Named, Refused, Wrote, Shut};
+ghost use Rattle.nutloop.specs.Sockets.{Told, Answers, AtMost, Knows, Looks, ReportsCall, read_call};
 
-use nutcore::{Bytes, ClientId, Event, Peer, Server, UpsId};
+use nutcore::{Bytes, ClientId, Peer, Server, Standing, UpsId};
 use nutwords::Address;
 
 /// What is ready, and so what a turn does.
@@ -58,8 +57,6 @@ pub enum Call {
     Wrote(Peer, Bytes, usize),
     /// The peer's connection is shut.
     Shut(Peer),
-    /// This event of the server is next.
-    Happens(Event),
 }
 
 /// A call failed.
@@ -68,75 +65,46 @@ pub struct Broken;
 
 /// The sockets of all peers. No call waits for a peer but `look`, which waits for all of them.
 pub trait Sockets {
-    /// The calls that were answered so far, where these sockets report them, and of which events
-    /// they hold a record. A call that failed isn't among them.
-    ghost calls: { Self → Reported };
-
-    /// How many calls failed. The count stops at its greatest number.
-    ghost failures: { Self → ℕ };
+    /// What these sockets report: the calls that were answered, how many failed, and how far they
+    /// have come in a pass over the peers. A call that failed isn't among those that were answered.
+    ghost told: { Self → Told };
 
     /// What is known to be ready, of what concerns this server.
     fn known(&mut self, server: &Server) -> Option<Ready>
-        ensures reported { Grows (calls self.old) (calls self.new) (readied result) }
-        ensures count { failures self.new ≡ failures self.old };
+        ensures { Knows (told self.old) server.now.state result (told self.new) };
 
     /// Looks what is ready, where nothing is known to be.
     fn look(&mut self, server: &Server) -> Result<Ready, Broken>
-        ensures reported { ReportsCall (calls self.old) (calls self.new) Readied result }
-        ensures count { IsCounted (failures self.old) (failures self.new) result };
-
-    /// What is ready now: what is known to be, or what a look finds.
-    final fn ready(&mut self, server: &Server) -> Result<Ready, Broken>
-        ensures reported { ReportsCall (calls self.old) (calls self.new) Readied result }
-        ensures count { IsCounted (failures self.old) (failures self.new) result }
-    {
-        match self.known(server) {
-            Some(ready) => Ok(ready),
-            None => self.look(server),
-        }
-    }
+        ensures { Looks (told self.old) server.now.state result (told self.new) };
 
     /// Takes in the next newcomer. The answer is its address. It is to be named or refused.
     fn accept(&mut self) -> Result<Option<Address>, Broken>
-        ensures reported { ReportsCall (calls self.old) (calls self.new) Accepted result }
-        ensures count { IsCounted (failures self.old) (failures self.new) result };
+        ensures { ReportsCall (told self.old) Accepted result (told self.new) };
 
     /// The newcomer that was taken in last has the session of this id.
     fn name(&mut self, c: ClientId)
-        ensures reported { Grows (calls self.old) (calls self.new) (Named c ∷ []) }
-        ensures count { failures self.new ≡ failures self.old };
+        ensures { Answers (told self.old) (Named c ∷ []) (told self.new) };
 
     /// The newcomer that was taken in last is sent away.
     fn refuse(&mut self)
-        ensures reported { Grows (calls self.old) (calls self.new) (Refused ∷ []) }
-        ensures count { failures self.new ≡ failures self.old };
+        ensures { Answers (told self.old) (Refused ∷ []) (told self.new) };
 
     /// Asks a peer for as many bytes as the buffer has room for, and reads what it gives into the
     /// front.
     fn read(&mut self, p: Peer, into: &mut [u8]) -> Result<Got, Broken>
         ensures bound { AtMost result into.new }
-        ensures reported { ReportsCall (calls self.old) (calls self.new) (read_call p into.new) result }
-        ensures count { IsCounted (failures self.old) (failures self.new) result };
+        ensures told { ReportsCall (told self.old) (read_call p into.new) result (told self.new) };
 
     /// Offers a peer the bytes. The answer is how many of them it took. 0 is for later.
     fn write(&mut self, p: Peer, from: &[u8]) -> Result<usize, Broken>
         ensures bound { IfOk result (λ n. n ≤ length from.now) }
-        ensures reported { ReportsCall (calls self.old) (calls self.new) (Wrote p from.now) result }
-        ensures count { IsCounted (failures self.old) (failures self.new) result };
+        ensures told { ReportsCall (told self.old) (Wrote p from.now) result (told self.new) };
 
     /// Shuts the connection of a peer. A client's is gone for good.
     fn shut(&mut self, p: Peer)
-        ensures reported { Grows (calls self.old) (calls self.new) (Shut p ∷ []) }
-        ensures count { failures self.new ≡ failures self.old };
+        ensures { Answers (told self.old) (Shut p ∷ []) (told self.new) };
 
-    /// This event of the server is next: one without bytes of a peer.
-    fn happens(&mut self, event: Event)
-        ensures reported { Grows (calls self.old) (calls self.new) (Happens event ∷ []) }
-        ensures count { failures self.new ≡ failures self.old };
-
-    /// The next event of the server is that these bytes come from the peer.
-    fn comes(&mut self, from: Peer, bytes: &[u8])
-        ensures reported { Grows (calls self.old) (calls self.new)
-            (Happens (came_from from bytes.now) ∷ []) }
-        ensures count { failures self.new ≡ failures self.old };
+    /// The client had a turn, after which its session has this status.
+    fn had_turn(&mut self, c: ClientId, standing: Standing)
+        ensures { Answers (told self.old) [] (told self.new) };
 }

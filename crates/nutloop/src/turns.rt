@@ -1,59 +1,105 @@
 //! One turn of the loop: one row of its table.
 ghost use Rattle.std.specs.Prelude.{◌≡◌, ◌∷◌, [], IsTrue};
 ghost use Rattle.nutwords.specs.Reading.{is_address};
-ghost use Rattle.nutloop.specs.Turn.{Does, IsRow, NewcomerGives, TurnGives, end_of, loses_driver};
+ghost use Rattle.nutcore.specs.Notes.{notes_of};
+ghost use Rattle.nutcore.specs.Recording.{Continues, came_from};
+ghost use Rattle.nutcore.specs.Step.{Step};
+ghost use Rattle.nutloop.specs.Sockets.{Answers};
+ghost use Rattle.nutloop.specs.Turn.{Does, IsRow, NewcomerGives, ReadyGives, TurnGives, around, end_of, loses_driver};
 ghost use Rattle.nutcore.specs.declared.event.Event.TheVariants as event;
 ghost use Rattle.nutcore.specs.declared.event.Peer.TheVariants.{Client, Driver};
-ghost use Rattle.nutloop.specs.declared.sockets.Ready.TheVariants.{Newcomer, Read, Write};
+ghost use Rattle.nutloop.specs.declared.sockets.Ready.TheVariants.{Read, Write};
 
 use crate::{Got, LoopFault, Ready, Sockets};
-use nutcore::{ClientId, Event, Fault, HELD_LIMIT, Peer, Server, UpsId};
+use nutcore::{ClientId, Event, Fault, HELD_LIMIT, Outcome, Peer, Record, Server, UpsId};
 use nutwords::Address;
 
 /// The most bytes that one read of a driver takes in. It bounds how long one turn of a driver keeps
 /// clients waiting.
 pub const DRIVER_READ_LIMIT: usize = 512;
 
-/// A client's session ends, and its connection is shut.
-fn close<S: Sockets>(server: &mut Server, sockets: &mut S, c: ClientId)
-    ensures { Does S.calls S.failures (event.Close c ∷ [])
-        server.old.state sockets.old server.new.state sockets.new }
+/// An event is recorded, and then it happens.
+fn happens<R: Record>(server: &mut Server, recorder: &mut R, next: Event) -> Outcome
+    ensures step { Step server.old.state next result server.new.state }
+    ensures noted { server.new.notes ≡ notes_of server.old.state next result }
+    ensures recorded { Continues (R.holds recorder.old) (next ∷ []) (R.holds recorder.new) }
 {
-    sockets.happens(Event::Close(c));
-    let _ = server.close(c);
+    recorder.event(&next);
+    server.step(&next)
+}
+
+/// Bytes come from a peer, which is recorded before.
+fn comes<R: Record>(server: &mut Server, recorder: &mut R, from: Peer, piece: &[u8]) -> Outcome
+    ensures step { Step server.old.state (came_from from piece.now) result server.new.state }
+    ensures noted { server.new.notes
+        ≡ notes_of server.old.state (came_from from piece.now) result }
+    ensures recorded { Continues (R.holds recorder.old) (came_from from piece.now ∷ [])
+        (R.holds recorder.new) }
+{
+    recorder.bytes(from, piece);
+    match from {
+        Peer::Client(c) => match server.feed(c, piece) {
+            Ok(n) => Outcome::Fed(n),
+            Err(fault) => Outcome::Refused(fault),
+        },
+        Peer::Driver(u) => match server.driver_bytes(u, piece) {
+            Ok(()) => Outcome::Done,
+            Err(fault) => Outcome::Refused(fault),
+        },
+    }
+}
+
+/// A client's session ends, and its connection is shut.
+fn close<S: Sockets, R: Record>(server: &mut Server, sockets: &mut S, recorder: &mut R, c: ClientId)
+    ensures { Does (event.Close c ∷ [])
+        (around server.old (S.told sockets.old) (R.holds recorder.old))
+        (around server.new (S.told sockets.new) (R.holds recorder.new)) }
+{
+    let _ = happens(server, recorder, Event::Close(c));
     sockets.shut(Peer::Client(c));
 }
 
 /// A driver is lost, and its connection is shut.
-fn lose<S: Sockets>(server: &mut Server, sockets: &mut S, u: UpsId)
-    ensures { Does S.calls S.failures (event.DriverDown u ∷ [])
-        server.old.state sockets.old server.new.state sockets.new }
+fn lose<S: Sockets, R: Record>(server: &mut Server, sockets: &mut S, recorder: &mut R, u: UpsId)
+    ensures { Does (event.DriverDown u ∷ [])
+        (around server.old (S.told sockets.old) (R.holds recorder.old))
+        (around server.new (S.told sockets.new) (R.holds recorder.new)) }
 {
-    sockets.happens(Event::DriverDown(u));
-    let _ = server.driver_down(u);
+    let _ = happens(server, recorder, Event::DriverDown(u));
     sockets.shut(Peer::Driver(u));
 }
 
 /// A client that is ending and is owed nothing is closed.
-fn close_finished<S: Sockets>(server: &mut Server, sockets: &mut S, c: ClientId)
-    ensures { Does S.calls S.failures (end_of c server.old.state)
-        server.old.state sockets.old server.new.state sockets.new }
+fn close_finished<S: Sockets, R: Record>(
+    server: &mut Server,
+    sockets: &mut S,
+    recorder: &mut R,
+    c: ClientId,
+)
+    ensures { Does (end_of c server.old.state)
+        (around server.old (S.told sockets.old) (R.holds recorder.old))
+        (around server.new (S.told sockets.new) (R.holds recorder.new)) }
 {
     if server.finished(c).unwrap_or(false) {
-        close(server, sockets, c);
+        close(server, sockets, recorder, c);
     }
 }
 
 /// A session is opened for a newcomer, which is named; or the newcomer is refused.
-fn open<S: Sockets>(server: &mut Server, sockets: &mut S, address: Address)
-    ensures does { Does S.calls S.failures (event.Open address ∷ [])
-        server.old.state sockets.old server.new.state sockets.new }
+fn open<S: Sockets, R: Record>(
+    server: &mut Server,
+    sockets: &mut S,
+    recorder: &mut R,
+    address: Address,
+)
+    ensures does { Does (event.Open address ∷ [])
+        (around server.old (S.told sockets.old) (R.holds recorder.old))
+        (around server.new (S.told sockets.new) (R.holds recorder.new)) }
     ensures lawful { IsTrue (is_address address) }
 {
-    sockets.happens(Event::Open(address.copied()));
-    match server.open(address) {
-        Ok(c) => sockets.name(c),
-        Err(_) => sockets.refuse(),
+    match happens(server, recorder, Event::Open(address)) {
+        Outcome::Opened(c) => sockets.name(c),
+        _ => sockets.refuse(),
     }
 }
 
@@ -69,12 +115,18 @@ fn loses_driver(fault: Fault) -> bool
 }
 
 /// A driver's bytes are done. Where they lose it, its connection is shut.
-fn feed_driver<S: Sockets>(server: &mut Server, sockets: &mut S, u: UpsId, piece: &[u8])
-    ensures { Does S.calls S.failures (event.DriverBytes u piece.now ∷ [])
-        server.old.state sockets.old server.new.state sockets.new }
+fn feed_driver<S: Sockets, R: Record>(
+    server: &mut Server,
+    sockets: &mut S,
+    recorder: &mut R,
+    u: UpsId,
+    piece: &[u8],
+)
+    ensures { Does (event.DriverBytes u piece.now ∷ [])
+        (around server.old (S.told sockets.old) (R.holds recorder.old))
+        (around server.new (S.told sockets.new) (R.holds recorder.new)) }
 {
-    sockets.comes(Peer::Driver(u), piece);
-    let Err(fault) = server.driver_bytes(u, piece) else {
+    let Outcome::Refused(fault) = comes(server, recorder, Peer::Driver(u), piece) else {
         return;
     };
     if loses_driver(fault) {
@@ -82,84 +134,108 @@ fn feed_driver<S: Sockets>(server: &mut Server, sockets: &mut S, u: UpsId, piece
     }
 }
 
-fn newcomer<S: Sockets>(server: &mut Server, sockets: &mut S) -> Result<(), LoopFault>
-    ensures { NewcomerGives S.calls S.failures
-        server.old.state sockets.old result server.new.state sockets.new }
+fn newcomer<S: Sockets, R: Record>(
+    server: &mut Server,
+    sockets: &mut S,
+    recorder: &mut R,
+) -> Result<(), LoopFault>
+    ensures { NewcomerGives (around server.old (S.told sockets.old) (R.holds recorder.old))
+        result (around server.new (S.told sockets.new) (R.holds recorder.new)) }
 {
     let Ok(accepted) = sockets.accept() else {
         return Err(LoopFault::Accept);
     };
     if let Some(address) = accepted {
-        open(server, sockets, address);
+        open(server, sockets, recorder, address);
     }
     Ok(())
 }
 
-fn read_client<S: Sockets>(server: &mut Server, sockets: &mut S, c: ClientId)
-    ensures { IsRow S.calls S.failures [] (Read (Client c))
-        server.old.state sockets.old server.new.state sockets.new }
+fn read_client<S: Sockets, R: Record>(
+    server: &mut Server,
+    sockets: &mut S,
+    recorder: &mut R,
+    c: ClientId,
+)
+    ensures { IsRow (Read (Client c))
+        (around server.old (S.told sockets.old) (R.holds recorder.old))
+        (around server.new (S.told sockets.new) (R.holds recorder.new)) }
 {
     let Ok(standing) = server.standing(c) else {
         return;
     };
     if standing.room == 0 {
-        sockets.comes(Peer::Client(c), &[]);
-        let _ = server.feed(c, &[]);
+        let _ = comes(server, recorder, Peer::Client(c), &[]);
         return;
     }
     let mut bytes = [0; HELD_LIMIT];
     let into = &mut bytes[..standing.room];
     match sockets.read(Peer::Client(c), into) {
         Ok(Got::Bytes(n)) => {
-            let piece = &into[..n];
-            sockets.comes(Peer::Client(c), piece);
-            let _ = server.feed(c, piece);
+            let _ = comes(server, recorder, Peer::Client(c), &into[..n]);
         }
         Ok(Got::Later) => {}
-        Ok(Got::End) => close(server, sockets, c),
-        Err(_) => close(server, sockets, c),
+        Ok(Got::End) => close(server, sockets, recorder, c),
+        Err(_) => close(server, sockets, recorder, c),
     }
 }
 
-fn read_driver<S: Sockets>(server: &mut Server, sockets: &mut S, u: UpsId)
-    ensures { IsRow S.calls S.failures [] (Read (Driver u))
-        server.old.state sockets.old server.new.state sockets.new }
+fn read_driver<S: Sockets, R: Record>(
+    server: &mut Server,
+    sockets: &mut S,
+    recorder: &mut R,
+    u: UpsId,
+)
+    ensures { IsRow (Read (Driver u))
+        (around server.old (S.told sockets.old) (R.holds recorder.old))
+        (around server.new (S.told sockets.new) (R.holds recorder.new)) }
 {
     if !server.driver_connected(u).unwrap_or(false) {
         return;
     }
     let mut bytes = [0; DRIVER_READ_LIMIT];
     match sockets.read(Peer::Driver(u), &mut bytes) {
-        Ok(Got::Bytes(n)) => feed_driver(server, sockets, u, &bytes[..n]),
+        Ok(Got::Bytes(n)) => feed_driver(server, sockets, recorder, u, &bytes[..n]),
         Ok(Got::Later) => {}
-        Ok(Got::End) => lose(server, sockets, u),
-        Err(_) => lose(server, sockets, u),
+        Ok(Got::End) => lose(server, sockets, recorder, u),
+        Err(_) => lose(server, sockets, recorder, u),
     }
 }
 
-fn write_client<S: Sockets>(server: &mut Server, sockets: &mut S, c: ClientId)
-    ensures { IsRow S.calls S.failures [] (Write (Client c))
-        server.old.state sockets.old server.new.state sockets.new }
+fn write_client<S: Sockets, R: Record>(
+    server: &mut Server,
+    sockets: &mut S,
+    recorder: &mut R,
+    c: ClientId,
+)
+    ensures { IsRow (Write (Client c))
+        (around server.old (S.told sockets.old) (R.holds recorder.old))
+        (around server.new (S.told sockets.new) (R.holds recorder.new)) }
 {
     let Ok(offered) = server.offer(c) else {
         return;
     };
     if offered.is_empty() {
-        close_finished(server, sockets, c);
+        close_finished(server, sockets, recorder, c);
         return;
     }
     match sockets.write(Peer::Client(c), offered) {
         Ok(n) => {
-            sockets.happens(Event::Took(c, n));
-            let _ = server.took(c, n);
+            let _ = happens(server, recorder, Event::Took(c, n));
         }
-        Err(_) => close(server, sockets, c),
+        Err(_) => close(server, sockets, recorder, c),
     }
 }
 
-fn write_driver<S: Sockets>(server: &mut Server, sockets: &mut S, u: UpsId)
-    ensures { IsRow S.calls S.failures [] (Write (Driver u))
-        server.old.state sockets.old server.new.state sockets.new }
+fn write_driver<S: Sockets, R: Record>(
+    server: &mut Server,
+    sockets: &mut S,
+    recorder: &mut R,
+    u: UpsId,
+)
+    ensures { IsRow (Write (Driver u))
+        (around server.old (S.told sockets.old) (R.holds recorder.old))
+        (around server.new (S.told sockets.new) (R.holds recorder.new)) }
 {
     let Ok(owed) = server.driver_offer(u) else {
         return;
@@ -169,45 +245,81 @@ fn write_driver<S: Sockets>(server: &mut Server, sockets: &mut S, u: UpsId)
     }
     match sockets.write(Peer::Driver(u), owed) {
         Ok(n) => {
-            sockets.happens(Event::DriverTook(u, n));
-            let _ = server.driver_took(u, n);
+            let _ = happens(server, recorder, Event::DriverTook(u, n));
         }
-        Err(_) => lose(server, sockets, u),
+        Err(_) => lose(server, sockets, recorder, u),
+    }
+}
+
+/// The client had a turn: the sockets learn the status of its session, if it is open still.
+fn had_turn<S: Sockets>(server: &Server, sockets: &mut S, c: ClientId)
+    ensures { Answers (S.told sockets.old) [] (S.told sockets.new) }
+{
+    if let Ok(standing) = server.standing(c) {
+        sockets.had_turn(c, standing);
+    }
+}
+
+/// What is ready: it is known, or nothing is and a look finds it. Before a look, which may wait, the
+/// record writes what waits.
+///
+/// # Errors
+///
+/// `Ready` where the look failed.
+fn ready<S: Sockets, R: Record>(
+    server: &Server,
+    sockets: &mut S,
+    recorder: &mut R,
+) -> Result<Ready, LoopFault>
+    ensures found { ReadyGives server.now.state (S.told sockets.old) result (S.told sockets.new) }
+    ensures recorded { Continues (R.holds recorder.old) [] (R.holds recorder.new) }
+{
+    if let Some(ready) = sockets.known(server) {
+        return Ok(ready);
+    }
+    recorder.pause();
+    match sockets.look(server) {
+        Ok(ready) => Ok(ready),
+        Err(_) => Err(LoopFault::Ready),
     }
 }
 
 /// One turn: asks once what is ready, and does that row: at most one read or write, and at most one
-/// event of the server. The sockets learn of the event before it happens.
+/// event of the server, which is recorded before it happens.
 ///
 /// # Errors
 ///
-/// `Ready` where `ready` failed and `Accept` where `accept` did. Both leave the server as it was.
-pub fn turn<S: Sockets>(server: &mut Server, sockets: &mut S) -> Result<(), LoopFault>
-    ensures { TurnGives S.calls S.failures
-        server.old.state sockets.old result server.new.state sockets.new }
+/// `Ready` where the look failed and `Accept` where `accept` did. Both leave the server as it was.
+pub fn turn<S: Sockets, R: Record>(
+    server: &mut Server,
+    sockets: &mut S,
+    recorder: &mut R,
+) -> Result<(), LoopFault>
+    ensures { TurnGives (around server.old (S.told sockets.old) (R.holds recorder.old))
+        result (around server.new (S.told sockets.new) (R.holds recorder.new)) }
 {
-    let Ok(ready) = sockets.ready(server) else {
-        return Err(LoopFault::Ready);
-    };
-    match ready {
+    match ready(server, sockets, recorder)? {
         Ready::Nothing => {}
+        Ready::Newcomer => return newcomer(server, sockets, recorder),
         Ready::Tick(seconds) => {
-            sockets.happens(Event::Tick(seconds));
-            server.tick(seconds);
+            let _ = happens(server, recorder, Event::Tick(seconds));
         }
-        Ready::Newcomer => return newcomer(server, sockets),
         Ready::Id(id) => {
-            sockets.happens(Event::Id(id));
-            let _ = server.id(id);
+            let _ = happens(server, recorder, Event::Id(id));
         }
         Ready::DriverUp(u) => {
-            sockets.happens(Event::DriverUp(u));
-            let _ = server.driver_up(u);
+            let _ = happens(server, recorder, Event::DriverUp(u));
         }
-        Ready::Read(Peer::Client(c)) => read_client(server, sockets, c),
-        Ready::Read(Peer::Driver(u)) => read_driver(server, sockets, u),
-        Ready::Write(Peer::Client(c)) => write_client(server, sockets, c),
-        Ready::Write(Peer::Driver(u)) => write_driver(server, sockets, u),
+        Ready::Read(Peer::Client(c)) => {
+            read_client(server, sockets, recorder, c);
+            had_turn(server, sockets, c);
+        }
+        Ready::Read(Peer::Driver(u)) => read_driver(server, sockets, recorder, u),
+        Ready::Write(Peer::Client(c)) => {
+            write_client(server, sockets, recorder, c);
+            had_turn(server, sockets, c);
+        }
+        Ready::Write(Peer::Driver(u)) => write_driver(server, sockets, recorder, u),
     }
     Ok(())
 }

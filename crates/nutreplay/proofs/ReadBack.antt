@@ -41,7 +41,8 @@ use Rattle.nutreplay.specs.declared.script.action.TheConstants.{UNLISTED}
 use Rattle.nutreplay.specs.Script.{ScriptLine}
 use Rattle.nutcore.specs.Server.{read_max_age}
 use Rattle.nutcore.specs.declared.max_age.TheConstants.{MAX_AGE_LEAST, MAX_AGE_MOST, MAX_AGE_DEFAULT}
-use Rattle.nutreplay.specs.Script.{split_at_space, age_by, age_in, age_of_lines, asks_nothing, max_age_of, number, ups_named, ups, with_rest, driver_and_rest, client_and_rest, took, taking, sent, sending, action_of, read_parts, read_line, actions_from, numbered, bad_line_from, is_bad, actions_of, first_bad_line}
+use Rattle.nutcore.specs.Recording.{came_from}
+use Rattle.nutreplay.specs.Script.{split_at_space, age_by, age_in, age_of_lines, asks_nothing, max_age_of, number, ups_named, ups, with_rest, driver_and_rest, client_and_rest, took, taking, sending, action_of, read_parts, read_line, actions_from, numbered, bad_line_from, is_bad, actions_of, first_bad_line}
 use Rattle.nutreplay.specs.Written.{name_at, verb_of_bytes, age_line, comment_line, head_of, is_one_line, line_of, Has, IsEventOf, IsReadAs, AHeadIsRead, WhatIsWrittenIsReadBack}
 
 -- The bytes of a line without LF, and those of a word of it.
@@ -241,10 +242,10 @@ digits_part bytes h =
 some_digits : (bytes : List ℕ) → (length bytes == 0) ≡ false → (length (encode_lower bytes) == 0) ≡ false
 some_digits bytes h = let twice = length-encode_with lower_digits bytes in grind (arith, nat_tests)
 
-digits_read : (p : Peer) (bytes : List ℕ) → (length bytes == 0) ≡ false → IsBytes bytes → sending Hex (Some (p, encode_lower bytes)) ≡ Some (sent p bytes)
+digits_read : (p : Peer) (bytes : List ℕ) → (length bytes == 0) ≡ false → IsBytes bytes → sending Hex (Some (p, encode_lower bytes)) ≡ Some (came_from p bytes)
 digits_read p bytes some h =
-    ap (λ b. option_map (sent p) (if b then None else result_ok (decode_of (encode_lower bytes)))) (some_digits bytes some)
-    ∙ ap (λ r. option_map (sent p) (result_ok r)) (decode_of-encode_lower bytes h)
+    ap (λ b. option_map (came_from p) (if b then None else result_ok (decode_of (encode_lower bytes)))) (some_digits bytes some)
+    ∙ ap (λ r. option_map (came_from p) (result_ok r)) (decode_of-encode_lower bytes h)
 
 -- A line that is written of an event.
 record IsOneLine (list : List Ups) (e : Event) : Type 0 where
@@ -281,18 +282,18 @@ happens o = option_map (λ event. Happens event) o
 -- The line of the bytes of a peer, of which some are written by `hex` and none by `part`.
 of_bytes : (list : List Ups) (p : Peer) (part hex who bytes : List ℕ) → IsWord part → IsWord hex → IsWord who → IsBytes bytes
     → ((rest : List ℕ) → is_silent (part ++ 32 ∷ rest) ≡ false) → ((rest : List ℕ) → is_silent (hex ++ 32 ∷ rest) ≡ false)
-    → line_of list (sent p bytes) ≡ verb_of_bytes part hex bytes ++ (32 ∷ (who ++ (32 ∷ (encode_lower bytes ++ 10 ∷ []))))
+    → line_of list (came_from p bytes) ≡ verb_of_bytes part hex bytes ++ (32 ∷ (who ++ (32 ∷ (encode_lower bytes ++ 10 ∷ []))))
     → ((rest : List ℕ) → action_of list part (who ++ 32 ∷ rest) ≡ happens (sending Part (Some (p, rest))))
     → ((rest : List ℕ) → action_of list hex (who ++ 32 ∷ rest) ≡ happens (sending Hex (Some (p, rest))))
-    → IsOneLine list (sent p bytes)
+    → IsOneLine list (came_from p bytes)
 unfolding encode_with
 of_bytes list p part hex who [] part_word hex_word word h part_loud hex_loud is part_reads hex_reads =
-    one_line list (sent p []) part (who ++ 32 ∷ []) part_word (rest_part who [] word refl) (part_loud (who ++ 32 ∷ []))
+    one_line list (came_from p []) part (who ++ 32 ∷ []) part_word (rest_part who [] word refl) (part_loud (who ++ 32 ∷ []))
     (is ∙ ap (λ xs. part ++ 32 ∷ xs) (rest_ends who []) ∙ sym (append_assoc part (32 ∷ (who ++ 32 ∷ [])) (10 ∷ []))) (part_reads [])
 of_bytes list p part hex who (b ∷ bytes) part_word hex_word word h part_loud hex_loud is part_reads hex_reads =
     let some : (length (b ∷ bytes) == 0) ≡ false = grind (arith, nat_tests) in
     let digits : List ℕ = encode_lower (b ∷ bytes) in
-    one_line list (sent p (b ∷ bytes)) hex (who ++ 32 ∷ digits) hex_word (rest_part who digits word (digits_part (b ∷ bytes) h)) (hex_loud (who ++ 32 ∷ digits))
+    one_line list (came_from p (b ∷ bytes)) hex (who ++ 32 ∷ digits) hex_word (rest_part who digits word (digits_part (b ∷ bytes) h)) (hex_loud (who ++ 32 ∷ digits))
     (is ∙ ap (λ t. (if t then part else hex) ++ (32 ∷ (who ++ (32 ∷ (digits ++ 10 ∷ []))))) some ∙ ap (λ xs. hex ++ 32 ∷ xs) (rest_ends who digits) ∙ sym (append_assoc hex (32 ∷ (who ++ 32 ∷ digits)) (10 ∷ [])))
     (hex_reads digits ∙ ap happens (digits_read p (b ∷ bytes) some h))
 

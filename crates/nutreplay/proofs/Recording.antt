@@ -7,10 +7,10 @@ use Rattle.nutusers.specs.UpsList.{Ups, IsList}
 use Rattle.nutcore.specs.declared.event.Event.{Event}
 use Rattle.nutcore.specs.declared.event.Peer.{Peer}
 use Rattle.nutcore.specs.declared.event.Peer.TheVariants.{Client, Driver}
-use Rattle.nutreplay.specs.Script.{sent}
+use Rattle.nutcore.specs.Recording.{Continues, came_from}
 use Rattle.nutreplay.specs.Written.{IsReadAs, IsEventOf, line_of, line_of_bytes}
 use Rattle.nutreplay.specs.declared.recorder.Recorder.{Recorder}
-use Rattle.nutreplay.specs.Recorded.{next_line, EndsAfterHead, HasEnded, GoesOn, IsRecordOf, IsFileOf, Records, RecordsNext, Leaves, WritesAll, ARecordIsOfItsEvents}
+use Rattle.nutreplay.specs.Recorded.{next_line, EndsAfterHead, HasEnded, GoesOn, IsRecordOf, IsFileOf, Records, Leaves, WritesAll, ARecordIsOfItsEvents}
 use Rattle.nutreplay.proofs.ReadBack.{what_is_written_is_read_back}
 
 -- One more event where the record has ended.
@@ -30,7 +30,7 @@ front_of (x ∷ a) b (y ∷ front) h = of (front_of a b front (h.0, cc (h.1)))
     of (inr (tail, (is, begins))) = inr (tail, (cc (h.1, is), begins))
 
 -- The bytes that come from a client or a driver.
-pub line_sent : (list : List Ups) (from : Peer) (bytes : List ℕ) → line_of_bytes list from bytes ≡ line_of list (sent from bytes)
+pub line_sent : (list : List Ups) (from : Peer) (bytes : List ℕ) → line_of_bytes list from bytes ≡ line_of list (came_from from bytes)
 line_sent list (Client c) bytes = refl
 line_sent list (Driver u) bytes = refl
 
@@ -100,8 +100,11 @@ module _ (list : List Ups) (max_age : ℕ) where
   kept script waiting after events e None true is is_list line lawful h = ends_here script waiting events e h
 
 module _ {W : Type 0} (contents : W → Option (List ℕ)) where
+  abbrev pub RecordsNext : Recorder W → Event → Recorder W → Type 0
+  RecordsNext old e new = Continues (λ age. Records contents age old) (e ∷ []) (λ age. Records contents age new)
+
   -- The record has ended.
-  pub is_off : (recorder : Recorder W) (e : Event) → recorder.is_cut ≡ true → RecordsNext contents recorder e recorder
+  pub is_off : (recorder : Recorder W) (e : Event) → recorder.is_cut ≡ true → RecordsNext recorder e recorder
   is_off recorder e off = λ max_age events h. record {
     is_list = h.is_list;
     script = h.script;
@@ -112,7 +115,7 @@ module _ {W : Type 0} (contents : W → Option (List ℕ)) where
 
   -- The line was added to those that wait, or the record ends.
   pub added : {A : Type 0} (old new : Recorder W) (e : Event) (done : Option A) → new.list ≡ old.list → new.writer ≡ old.writer → is_some done ≡ not new.is_cut → old.is_cut ≡ false
-      → OnSome done (string_bytes new.waiting ≡ string_bytes old.waiting ++ line_of old.list e) → OnSome done (IsEventOf old.list e) → RecordsNext contents old e new
+      → OnSome done (string_bytes new.waiting ≡ string_bytes old.waiting ++ line_of old.list e) → OnSome done (IsEventOf old.list e) → RecordsNext old e new
   added old new e done same_list same_writer cut goes_on line lawful = λ max_age events h. record {
     is_list = subst IsList (sym same_list) h.is_list;
     script = h.script;
@@ -160,6 +163,9 @@ module _ {W : Type 0} (contents : W → Option (List ℕ)) (failures : W → ℕ
       with_none : (list : List Ups) (cut : Bool) (file : List ℕ) → IsFileOf list max_age cut file events → IsRecordOf list max_age cut file [] events
       with_none list true file h = h
       with_none list false file h = nothing_waits list max_age file events h
+
+  pub goes_on : (old new : Recorder W) → WritesAll contents failures old new → Continues (λ age. Records contents age old) [] (λ age. Records contents age new)
+  goes_on old new written = λ age events h. subst (λ es. Records contents age new es) (sym (append-nil events)) (same_events age old new events h written)
 
   pub of_its_events : ARecordIsOfItsEvents contents failures
   of_its_events = record { file = is_file_of; same = same_events }

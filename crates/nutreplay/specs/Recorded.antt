@@ -57,13 +57,6 @@ pub record Records {W : Type 0} (contents : W → Option (List ℕ)) (max_age : 
   pub is : IsRecordOf recorder.list max_age recorder.is_cut script (string_bytes recorder.waiting)
       events
 
--- A recorder becomes one that has recorded this event, too.
-abbrev pub RecordsNext : {W : Type 0} → (W → Option (List ℕ)) → Recorder W → Event → Recorder W
-    → Type 0
-RecordsNext contents old event new =
-    (max_age : ℕ) (events : List Event) → Records contents max_age old events
-    → Records contents max_age new (events ++ event ∷ [])
-
 -- What a write of a text leaves: all of it; or nothing of one that is longer than is left, or a
 -- beginning, where a write failed.
 abbrev pub Leaves : {W : Type 0} → (W → Option (List ℕ)) → (W → ℕ) → ℕ → W → List ℕ → Bool → W

@@ -14,6 +14,7 @@ use Rattle.nutwords.specs.Text.{with_lf}
 use Rattle.nutusers.specs.declared.ups_list.UpsId.{UpsId}
 use Rattle.nutusers.specs.UpsList.{Ups, place_of, id_at}
 use Rattle.nutcore.specs.Server.{read_max_age}
+use Rattle.nutcore.specs.Recording.{came_from}
 use Rattle.nutcore.specs.declared.max_age.TheConstants.{MAX_AGE_DEFAULT, MAX_AGE_MOST}
 use Rattle.nutcore.specs.declared.event.Event.{Event}
 use Rattle.nutcore.specs.declared.event.Event.TheVariants.{DriverUp, DriverBytes, DriverTook}
@@ -86,13 +87,9 @@ bytes_of Line text = Some (with_lf text)
 bytes_of Part text = Some text
 bytes_of Hex text = hex_bytes text
 
-abbrev pub sent : Peer → List ℕ → Event
-sent (Client c) piece = Feed c piece
-sent (Driver u) piece = DriverBytes u piece
-
 abbrev pub sending : Form → Option (Peer × List ℕ) → Option Event
 sending form None = None
-sending form (Some parts) = option_map (λ piece. sent parts.0 piece) (bytes_of form parts.1)
+sending form (Some parts) = option_map (λ piece. came_from parts.0 piece) (bytes_of form parts.1)
 
 -- The event of a verb, with the bytes after its space: one case a verb, here and below. First the
 -- verbs of clients, of the clock and of ids.

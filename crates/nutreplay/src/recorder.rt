@@ -1,11 +1,10 @@
 //! A record: the events of a server, written one by one as a script.
 ghost use Rattle.std.specs.Prelude.{◌≡◌, [], is_some, string_bytes, IfSome, Some, ℕ};
-ghost use Rattle.nutreplay.specs.Recorded.{Leaves, Records, RecordsNext, WritesAll};
-ghost use Rattle.nutreplay.specs.Script.{sent};
+ghost use Rattle.nutreplay.specs.Recorded.{Leaves, Records, WritesAll};
 ghost use Rattle.nutreplay.specs.Written.{IsReadAs, head_of, is_one_line};
 
 use crate::script::{add_line, add_line_of_bytes};
-use nutcore::{Event, MaxAge, Peer, UpsList};
+use nutcore::{Event, MaxAge, Peer, Record, UpsList};
 use nutio::{Sink, send};
 use std::alloc::Global;
 
@@ -49,7 +48,7 @@ impl<W: Sink + Drop> Recorder<W> {
 
     /// Writes the lines that wait. Where that fails, or they are more than the limit leaves, the
     /// record has ended.
-    pub fn flush(&mut self)
+    fn flush(&mut self)
         ensures { WritesAll W.contents W.failures self.old self.new }
     {
         if !self.is_cut {
@@ -58,24 +57,26 @@ impl<W: Sink + Drop> Recorder<W> {
         }
         self.waiting.clear();
     }
+}
 
-    /// Records the event.
-    pub fn event(&mut self, event: &Event)
-        ensures { RecordsNext W.contents self.old event.now self.new }
-    {
+impl<W: Sink + Drop> Record for Recorder<W> {
+    ghost holds = { λ r. λ max_age. Records W.contents max_age r };
+
+    fn event(&mut self, event: &Event) {
         if !self.is_cut {
             self.is_cut = add_line(&mut self.waiting, &self.list, event).is_none();
         }
     }
 
-    /// Records that the bytes come from the peer.
-    pub fn bytes(&mut self, from: Peer, bytes: &[u8])
-        ensures { RecordsNext W.contents self.old (sent from bytes.now) self.new }
-    {
+    fn bytes(&mut self, from: Peer, bytes: &[u8]) {
         if !self.is_cut {
             let added = add_line_of_bytes(&mut self.waiting, &self.list, from, bytes);
             self.is_cut = added.is_none();
         }
+    }
+
+    fn pause(&mut self) {
+        self.flush();
     }
 }
 

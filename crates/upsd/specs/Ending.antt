@@ -5,7 +5,7 @@ use Rattle.std.specs.Net.Text.{socket_text}
 use Rattle.std.specs.declared.net.socket_addr.SocketAddr.{SocketAddr}
 use denote.Ref.{Bor}
 use Rattle.nutio.specs.Ends.{WriteFailed, Written}
-use Rattle.nutusers.specs.File.{Format, IsRefused, number_of_cause}
+use Rattle.nutusers.specs.File.{Format, IsRefused}
 use Rattle.nutusers.specs.declared.fault.Cause.TheVariants as causes
 use Rattle.nutusers.specs.declared.fault.ConfFault.{ConfFault}
 use Rattle.upsd.specs.declared.ending.Ending.{Ending}
@@ -16,11 +16,11 @@ use Rattle.nutreplay.specs.declared.replaying.ReplayFault.{ReplayFault}
 use Rattle.nutreplay.specs.declared.replaying.ReplayFault.TheVariants as faults
 
 -- The ending for this refusal of the file: no memory where memory was refused, and nowhere else;
--- else the file's path, and the line and the cause's number of the refusal.
+-- else the file's path, and the line and the cause of the refusal.
 pub record EndsByFault (path : Bor (List ℕ)) (fault : ConfFault) (ending : Ending) : Type 0 where
   pub memory : fault.cause ≡ causes.Memory → ending ≡ endings.Memory
   pub line : fault.cause ≢ causes.Memory
-      → ending ≡ endings.Refused path fault.line (number_of_cause fault.cause)
+      → ending ≡ endings.Refused path fault.line fault.cause
 
 -- The ending for the refusal of a file with these lines.
 abbrev pub EndsByRefusal : Format → (List ℕ → Bool) → Bor (List ℕ) → List (List ℕ) → Ending → Type 0

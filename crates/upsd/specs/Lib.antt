@@ -5,4 +5,3 @@ pub mod Configuration
 pub mod Replaying
 pub mod Task
 pub mod Words
-pub mod Recorded

@@ -2,6 +2,7 @@
 ghost use Rattle.std.specs.Prelude.{◌≡◌, MatchResult, Ok, Err};
 ghost use Rattle.upsd.specs.Ending.{EndsByFault, ending_of_replay, status_of};
 
+use nutcommand::Said;
 use nutloop::LoopFault;
 use nutreplay::ReplayFault;
 use nutusers::{Cause, ConfFault};
@@ -30,9 +31,9 @@ pub enum Ending<'a> {
     /// The file can't be read.
     #[error("{0}: cannot read")]
     Unread(&'a str, Option<i32>),
-    /// This line of a configuration file is refused, with the number of its cause.
-    #[error("{0}:{1}: cause {2}")]
-    Refused(&'a str, usize, u8),
+    /// This line of a configuration file is refused for this cause.
+    #[error("{0}:{1}: cause {number}", number = .2.number())]
+    Refused(&'a str, usize, Cause),
     /// This line of the script is none of a script's lines.
     #[error("{0}:{1}: bad event")]
     BadEvent(&'a str, usize),
@@ -53,7 +54,7 @@ pub fn ending_of_file(path: &str, fault: ConfFault) -> Ending<'_>
 {
     match fault.cause {
         Cause::Memory => Ending::Memory,
-        cause => Ending::Refused(path, fault.line, cause.number()),
+        cause => Ending::Refused(path, fault.line, cause),
     }
 }
 
@@ -93,6 +94,9 @@ pub fn print_ending(rt: &HostRuntime, ending: &Ending<'_>) {
         Ending::BadArgument(None) => {
             let _ = eprintln!(rt; "upsd: a word is not UTF-8");
         }
+        Ending::Refused(_, _, cause) => {
+            let _ = eprintln!(rt; "upsd: cause {}: {cause}", cause.number());
+        }
         Ending::Unread(path, error) => explain(rt, &path, error),
         Ending::Listen(address, error) => explain(rt, &address, error),
         _ => {}
@@ -102,7 +106,7 @@ pub fn print_ending(rt: &HostRuntime, ending: &Ending<'_>) {
 /// Prints the system's error of a file or an address, if it has one.
 fn explain<D: fmt::Display>(rt: &HostRuntime, of: &D, error: Option<i32>) {
     if let Some(number) = error {
-        let error = io::Error::from_raw_os_error(number);
+        let error = Said(io::Error::from_raw_os_error(number));
         let _ = eprintln!(rt; "upsd: {of}: {error}");
     }
 }

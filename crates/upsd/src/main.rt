@@ -15,7 +15,6 @@ mod ending;
 mod files;
 mod laws;
 mod reading;
-mod recorded;
 mod replaying;
 mod serve;
 mod task;
@@ -62,21 +61,13 @@ fn matches_of(alloc: Global, words: &[String]) -> Result<ArgMatches<'_>, Error>
     upsd.try_get_matches_from(words)
 }
 
-/// The text below the options of `serve`.
-const SERVE_NOTES: &str = "\
-A refused line of a file is reported as PATH:LINE: cause N:
-  1 malformed line, 2 setting outside of a section, 3 bad name, 4 duplicate,
-  5 unknown key, 6 bad value
-
-Example: upsd serve --ups upses.conf --users upsd.users --ids /dev/urandom";
-
 /// `serve` and its words.
 fn serve_command<'a>(alloc: Global) -> Result<Command<'a>, AllocError>
     ensures { IfOk result (λ c. app_of c ≡ serve_app) }
 {
     let serve = Command::new(alloc, "serve")
         .about("Serves the state of UPSs to clients on the network")
-        .after_help(SERVE_NOTES);
+        .after_help("Example: upsd serve --ups upses.conf --users upsd.users --ids /dev/urandom");
     with_words(alloc, serve, &SERVE_WORDS)
 }
 

@@ -1,29 +1,28 @@
 //! Serving clients and drivers.
-ghost use Rattle.std.specs.Prelude.{◌≡◌, ◌≢◌, ◌⊎◌, MatchResult, IfOk, IfErr, Ok, Err, is_some};
+ghost use Rattle.std.specs.Prelude.{◌≡◌, ◌≢◌, ◌⊎◌, List, IfOk, IfErr, MatchResult, Ok, Err, is_some};
 ghost use Rattle.std.specs.IoError.{error_kind, raw_os_error};
+ghost use Rattle.nutcore.specs.declared.note.Note.{Note};
 ghost use Rattle.nutloop.specs.declared.fault.LoopFault.{LoopFault};
-ghost use Rattle.nutloop.specs.Moved.{SomeTurns};
-ghost use Rattle.nutloop.specs.Serving.{IsOneRun, TurnsUpTo};
+ghost use Rattle.nutloop.specs.OverMio.{told_of};
+ghost use Rattle.nutloop.specs.Serving.{IsOneRun, TurnsUpTo, running};
 ghost use Rattle.upsd.specs.Configuration.{FirstFails};
 ghost use Rattle.upsd.specs.Ending.{IsEndOfServing, PrintsAddress};
 ghost use Rattle.upsd.specs.Reading.{CantBeOpened, anything};
-ghost use Rattle.upsd.specs.Recorded.{ServesRecorded};
 
 use crate::ending::Ending;
 use crate::files::{Files, server_of};
 use crate::reading::{create, open};
-use crate::recorded::{Recorded, Served};
 use crate::task::Service;
 use crate::warnings::{warn, warn_of_record};
-use nutcore::{MaxAge, Server};
+use nutcore::{MaxAge, Record, Server};
 use nutio::{CountedWriter, Sink, send};
 use nutjournal::Journal;
-use nutloop::{MioSockets, Sockets};
+use nutloop::MioSockets;
 use nutreplay::{Recorder, record_head};
 use nutversion::VERSION;
 use std::alloc::Global;
 use std::fs::File;
-use std::io::{Error, ErrorKind};
+use std::io::{Error, ErrorKind, Read};
 use std::net::SocketAddr;
 use std::time::{SystemTime, UNIX_EPOCH};
 use std::{env, io};
@@ -60,9 +59,9 @@ fn ids_in<'a>(rt: &HostRuntime, path: Option<&'a str>) -> Result<Option<File>, E
     }
 }
 
-/// Opens the ids' file, listens at the address, and serves there. It owns only the sockets, and
-/// what it calls owns none: a function that may end early while it owns a server or sockets takes
-/// long to prove.
+/// Opens the ids' file, listens at the address, and serves there. It owns only the sockets and the
+/// record, and what it calls owns none: a function that may end early while it owns a server or
+/// sockets takes long to prove.
 fn serve<'a>(
     rt: &HostRuntime,
     server: &mut Server,
@@ -75,21 +74,19 @@ fn serve<'a>(
     let ids = ids_in(rt, files.ids)?;
     let address = service.address;
     match MioSockets::new(rt, rt.alloc(), address, server, ids, service.nut_bytes) {
-        Ok(mut sockets) => match file_for_record(rt, files.to_record) {
-            Some(file) => match recorder_in(
-                rt,
-                server,
-                file,
-                service.max_age,
-                service.record_limit,
-            ) {
-                Ok(recorder) => {
-                    let mut sockets = Recorded { sockets, recorder };
-                    serve_recorded(rt, server, &mut sockets, files, service)
-                }
-                Err(ending) => Err(ending),
-            },
-            None => serve_over(rt, server, &mut sockets, files, service),
+        Ok(mut sockets) => match recorder_in(
+            rt,
+            server,
+            files.to_record,
+            service.max_age,
+            service.record_limit,
+        ) {
+            Ok(mut record) => {
+                let ended = serve_over(rt, server, &mut sockets, &mut record, files, service);
+                record.pause();
+                ended
+            }
+            Err(ending) => Err(ending),
         },
         Err(error) => Err(ending_of_listening(address, &error)),
     }
@@ -108,21 +105,25 @@ fn file_for_record(rt: &HostRuntime, path: Option<&str>) -> Option<File> {
     }
 }
 
-/// A recorder of at most so many MiB in this file. Its head has the greatest age, and a comment.
+/// A recorder of at most so many MiB in the file of this path, if one is wanted. Its head has the
+/// greatest age, and a comment.
 fn recorder_in<'a>(
     rt: &HostRuntime,
     server: &Server,
-    file: File,
+    path: Option<&str>,
     max_age: MaxAge,
     mebibytes: u64,
-) -> Result<Recorder<CountedWriter<File>>, Ending<'a>>
+) -> Result<Option<Recorder<CountedWriter<File>>>, Ending<'a>>
     ensures { IfErr result (λ ending. ending ≡ Ending.Memory) }
 {
+    let Some(file) = file_for_record(rt, path) else {
+        return Ok(None);
+    };
     let list = server.ups().share().map_err(|_| Ending::Memory)?;
     let comment = comment(rt).unwrap_or(String::new(rt.alloc()));
     let head = record_head(rt.alloc(), max_age, &comment).ok_or(Ending::Memory)?;
     let limit = mebibytes.saturating_mul(1 << 20);
-    Ok(Recorder::new(list, head, CountedWriter::new(file), limit))
+    Ok(Some(Recorder::new(list, head, CountedWriter::new(file), limit)))
 }
 
 /// What made a record: the version, the second since 1970, and the words of the command.
@@ -137,42 +138,23 @@ fn comment(rt: &HostRuntime) -> io::Result<String> {
     Ok(comment)
 }
 
-/// Serves over these sockets, and then writes what waits of the record.
-fn serve_recorded<'a, S: Served<File>, W: Sink + Drop>(
-    rt: &HostRuntime,
-    server: &mut Server,
-    sockets: &mut Recorded<S, W>,
-    files: Files<'a>,
-    service: Service,
-) -> Result<(), Ending<'a>>
-    ensures ends { IfErr result (IsEndOfServing service.address) }
-    ensures written { ServesRecorded ⟦<Recorded<S, W> as Sockets>⟧.calls
-        ⟦<Recorded<S, W> as Sockets>⟧.failures W.contents W.failures
-        server.old.state sockets.old server.new.state sockets.new }
-{
-    let ended = serve_over(rt, server, sockets, files, service);
-    sockets.recorder.flush();
-    ended
-}
-
 /// Writes the warnings, prints the address, and serves from then on.
-fn serve_over<'a, S: Served<File>>(
+fn serve_over<'a, F: Read + Drop, W: Sink + Drop>(
     rt: &HostRuntime,
     server: &mut Server,
-    sockets: &mut S,
+    sockets: &mut MioSockets<'_, HostRuntime, F>,
+    recorder: &mut Option<Recorder<W>>,
     files: Files<'a>,
     service: Service,
 ) -> Result<(), Ending<'a>>
-    ensures ends { IfErr result (IsEndOfServing service.address) }
-    ensures turns { SomeTurns S.calls S.failures
-        server.old.state sockets.old server.new.state sockets.new }
+    ensures { IfErr result (IsEndOfServing service.address) }
 {
     let address = service.address;
     let journal = Journal::new(rt, service.priorities, service.max_age);
     let mut journal = journal.map_err(|_| Ending::Memory)?;
     warn(rt, files, server.ups(), server.users());
-    match print_bound(rt, address, sockets.shown().0.local_addr()) {
-        Ok(()) => go_round(rt, server, sockets, &mut journal),
+    match print_bound(rt, address, sockets.local_addr()) {
+        Ok(()) => go_round(rt, server, sockets, recorder, &mut journal),
         Err(ending) => Err(ending),
     }
 }
@@ -193,24 +175,32 @@ fn print_bound<'a>(
 }
 
 /// Goes round the peers up to the first fault of the loop, and writes what is new. Whatever the
-/// sockets do, it is one run of the server.
-fn go_round<'a, S: Served<File>>(
+/// sockets do, it is one run of the server, of which the record has the events and the journal is
+/// shown the notes.
+fn go_round<'a, F: Read + Drop, W: Sink + Drop>(
     rt: &HostRuntime,
     server: &mut Server,
-    sockets: &mut S,
+    sockets: &mut MioSockets<'_, HostRuntime, F>,
+    recorder: &mut Option<Recorder<W>>,
     journal: &mut Journal,
 ) -> Result<(), Ending<'a>>
     ensures turns { MatchResult result
-        (λ done. TurnsUpTo S.calls S.failures
-        server.old.state sockets.old (Ok done) server.new.state sockets.new)
-        (λ ending. (fault : LoopFault) × (ending ≡ Ending.Loop fault) × TurnsUpTo S.calls S.failures
-        server.old.state sockets.old (Err fault) server.new.state sockets.new) }
-    ensures run { IsOneRun server.old.state server.new.state }
+        (λ done. TurnsUpTo told_of ⟦<Option<Recorder<W>> as Record>⟧.holds
+        (running server.old sockets.old recorder.old) (Ok done)
+        (running server.new sockets.new recorder.new))
+        (λ ending. (fault : LoopFault) × (ending ≡ Ending.Loop fault)
+        × TurnsUpTo told_of ⟦<Option<Recorder<W>> as Record>⟧.holds
+        (running server.old sockets.old recorder.old) (Err fault)
+        (running server.new sockets.new recorder.new)) }
+    ensures run { (notes : List Note)
+        × IsOneRun told_of ⟦<Option<Recorder<W>> as Record>⟧.holds
+        (running server.old sockets.old recorder.old) notes
+        (running server.new sockets.new recorder.new) }
 {
-    match nutloop::serve(server, sockets, |server, sockets| {
-        let (sockets, is_record_cut) = sockets.shown();
+    match nutloop::serve(server, sockets, recorder, |server, sockets, recorder| {
         let error_of = |u| sockets.driver_error(u);
-        journal.write(rt, server, error_of, sockets.counts(), is_record_cut);
+        let is_cut = matches!(recorder, Some(one) if one.is_cut());
+        journal.write(rt, server, error_of, sockets.counts(), is_cut);
     }) {
         Ok(()) => Ok(()),
         Err(fault) => Err(Ending::Loop(fault)),

@@ -2,6 +2,7 @@
 //! begins.
 
 use crate::files::Files;
+use nutcommand::Said;
 use nutcore::{UpsId, UpsList, Users};
 use nutloop::ID_SIZE;
 use nutusers::{Grant, User};
@@ -42,6 +43,7 @@ pub fn warn(rt: &HostRuntime, files: Files<'_>, list: &UpsList, users: &Users) {
 
 /// Warns that the record of this path can't be made.
 pub fn warn_of_record(rt: &HostRuntime, path: &str, error: &Error) {
+    let error = Said(*error);
     let warning = format_args!("cannot create, and nothing is recorded: {error}");
     warn_if(rt, true, path, &warning);
 }

@@ -1,5 +1,6 @@
 //! The server over the system's sockets, beside its driver.
 use super::driver::Driver;
+use crate::kept::Kept;
 use anyhow::{Error, Result};
 use nutcore::{Descriptions, MAX_AGE_DEFAULT, MaxAge, Server, UpsList, Users};
 use nutloop::{MioSockets, turn};
@@ -18,6 +19,7 @@ const ANY_PORT: &str = "127.0.0.1:0";
 pub struct Served<'a> {
     server: Server,
     sockets: MioSockets<'a, HostRuntime, File>,
+    record: Kept,
     driver: Driver,
     turns: u32,
 }
@@ -31,6 +33,7 @@ impl<'a> Served<'a> {
         Ok(Served {
             server,
             sockets,
+            record: Kept::new(rt.alloc()),
             driver,
             turns: 0,
         })
@@ -53,7 +56,7 @@ impl<'a> Served<'a> {
         }
         self.turns += 1;
         self.driver.step()?;
-        turn(&mut self.server, &mut self.sockets)?;
+        turn(&mut self.server, &mut self.sockets, &mut self.record)?;
         Ok(())
     }
 }

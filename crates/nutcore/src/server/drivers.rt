@@ -2,7 +2,6 @@
 ghost use Rattle.std.specs.Prelude.{◌≡◌, map, length, MatchResult, OnOk, IfErr, Some, None, true};
 ghost use Rattle.std.specs.Option.{option_map};
 ghost use Rattle.nutcore.specs.Server.{ups_at};
-ghost use Rattle.nutcore.specs.Headline.{IsLawful};
 ghost use Rattle.nutcore.specs.Ups.{after_tick};
 ghost use Rattle.nutcore.specs.Promises.{IsNotConnected};
 ghost use Rattle.nutcore.specs.Calls.{is_connected};
@@ -22,7 +21,6 @@ impl Server {
     pub(super) fn ups_of(&self, u: UpsId) -> Result<&Ups, Fault>
         ensures ups { MatchResult result (λ ups. ups_at u.place self.now.state ≡ Some ups.now)
             (λ fault. (fault ≡ NoSuchUps) × (ups_at u.place self.now.state ≡ None)) }
-        ensures lawful { IsLawful self.now.state }
     {
         self.upses.get(u.place as usize).ok_or(Fault::NoSuchUps)
     }
@@ -36,7 +34,6 @@ impl Server {
         ensures connected { OnOk result
             (option_map is_connected (ups_at u.place self.now.state) ≡ Some true) }
         ensures refused { IfErr result (λ fault. IsNotConnected u fault self.now.state) }
-        ensures lawful { IsLawful self.now.state }
     {
         if self.ups_of(u)?.report.connected {
             Ok(())

@@ -1,7 +1,6 @@
 //! The table of sessions: where each one is.
 ghost use Rattle.std.specs.Prelude.{◌≡◌, MatchResult, Some, None};
 ghost use Rattle.nutcore.specs.Server.{session};
-ghost use Rattle.nutcore.specs.Headline.{IsLawful};
 ghost use Rattle.nutcore.specs.Promises.{IsAt};
 ghost use Rattle.nutcore.specs.declared.event.Fault.TheVariants.{NoSuchClient};
 
@@ -18,7 +17,6 @@ impl Server {
     pub(super) fn place_of(&self, c: ClientId) -> Result<usize, Fault>
         ensures place { MatchResult result (λ i. IsAt c i self.now.state.sessions)
             (λ fault. (fault ≡ NoSuchClient) × (session c self.now.state ≡ None)) }
-        ensures lawful { IsLawful self.now.state }
     {
         self.sessions
             .binary_search_by_key(&c, |session| session.id)

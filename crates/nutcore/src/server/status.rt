@@ -9,7 +9,7 @@ ghost use Rattle.nutusers.specs.declared.limits.TheConstants.{UPS_LIMIT};
 
 use super::Server;
 use crate::event::{ClientId, Fault};
-use crate::note::{Notes, data_note};
+use crate::note::{Notes, note_data};
 use crate::ups::Ups;
 use nutusers::UpsId;
 
@@ -72,6 +72,11 @@ pub(super) fn note_stale(upses: &Vec<Ups>, max_age: u32, was: u64, is: u64, note
     for place in 0..upses.len() {
         let u = UpsId { place: place as u8 };
         let ups = &upses[place];
-        notes.extend(data_note(u, ups.data_state(max_age, was), ups.data_state(max_age, is)));
+        note_data(
+            u,
+            ups.data_state(max_age, was),
+            ups.data_state(max_age, is),
+            notes,
+        );
     }
 }

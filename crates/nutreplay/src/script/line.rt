@@ -1,6 +1,6 @@
 //! The line of a script that says what happened.
 ghost use Rattle.std.specs.Prelude.{◌≡◌, ◌++◌, IfSome, OnSome, string_bytes};
-ghost use Rattle.nutreplay.specs.Script.{sent};
+ghost use Rattle.nutcore.specs.Recording.{came_from};
 ghost use Rattle.nutreplay.specs.Written.{Has, IsEventOf, line_of, line_of_bytes, name_at, verb_of_bytes};
 
 use nutcore::{Event, Peer, UpsId, UpsList};
@@ -52,7 +52,7 @@ pub fn add_line(text: &mut String, list: &UpsList, event: &Event) -> Option<()>
 pub fn add_line_of_bytes(text: &mut String, list: &UpsList, from: Peer, bytes: &[u8]) -> Option<()>
     ensures line { OnSome result (string_bytes text.new
         ≡ string_bytes text.old ++ line_of_bytes list.now from bytes.now) }
-    ensures lawful { OnSome result (IsEventOf list.now (sent from bytes.now)) }
+    ensures lawful { OnSome result (IsEventOf list.now (came_from from bytes.now)) }
 {
     let digits = hex::encode(*text.allocator(), bytes).ok()?;
     match from {

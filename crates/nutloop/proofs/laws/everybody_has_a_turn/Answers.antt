@@ -2,4 +2,4 @@ use Rattle.nutloop.proofs.Fairness as law
 use Rattle.nutloop.proofs.laws.everybody_has_a_turn.Goals as goal
 
 pub returns : goal.returns
-returns c = law.everybody_has_a_turn
+returns g c = law.everybody_has_a_turn g.S.Sockets.told g.R.Record.holds

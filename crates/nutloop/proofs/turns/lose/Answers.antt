@@ -1,9 +1,8 @@
 use Rattle.nutcore.specs.declared.event.Event.TheVariants.{DriverDown}
-use Rattle.nutcore.specs.Calls.{done}
 use Rattle.nutloop.proofs.Rows.{does_one}
 use Rattle.nutloop.proofs.turns.lose.Goals as goal
 
 pub returns : goal.returns
 returns g c =
-    does_one g.S.Sockets.calls g.S.Sockets.failures (DriverDown c.args.u) (done c.driver_down.result) c.args.server.now.state c.args.sockets.now c.happens.new.self c.driver_down.new.self.state c.shut.new.self
-    c.happens.ensures.reported c.happens.ensures.count c.driver_down.ensures.served.step c.shut.ensures.reported c.shut.ensures.count
+    does_one (DriverDown c.args.u) c.happens.result c.args.server.now c.happens.new.server (g.S.Sockets.told c.args.sockets.now) (g.S.Sockets.told c.shut.new.self) (g.R.Record.holds c.args.recorder.now) (g.R.Record.holds c.happens.new.recorder)
+    c.happens.ensures.step c.happens.ensures.noted c.happens.ensures.recorded c.shut.ensures

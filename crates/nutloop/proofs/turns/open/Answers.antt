@@ -1,14 +1,19 @@
+use Rattle.std.proofs.Common.{sym, subst, rules, ◌∷◌, []}
 use Rattle.nutcore.specs.declared.event.Event.TheVariants.{Open}
-use Rattle.nutcore.specs.declared.event.Outcome.TheVariants.{Opened, Refused}
-use Rattle.nutloop.proofs.Rows.{does_one}
+use Rattle.nutcore.specs.declared.event.Outcome.TheVariants.{Opened}
+use Rattle.nutloop.specs.Sockets.{Answers}
+use Rattle.nutloop.proofs.Rows.{does_one, refused_behind}
 use Rattle.nutloop.proofs.turns.open.Goals as goal
 
-pub returns-in-Ok-clause-does : goal.returns-in-Ok-clause-does
-returns-in-Ok-clause-does g c =
-    does_one g.S.Sockets.calls g.S.Sockets.failures (Open c.args.address) (Opened c.in-Ok.c) c.args.server.now.state c.args.sockets.now c.happens.new.self c.open.new.self.state c.name.new.self
-    (rw c.copied.ensures at c.happens.ensures.reported) c.happens.ensures.count c.in-Ok.ensures.served.step c.name.ensures.reported c.name.ensures.count
+pub returns-in-Opened-clause-does : goal.returns-in-Opened-clause-does
+returns-in-Opened-clause-does g c =
+    does_one (Open c.args.address) (Opened c.in-Opened.c) c.args.server.now c.happens.new.server (g.S.Sockets.told c.args.sockets.now) (g.S.Sockets.told c.name.new.self) (g.R.Record.holds c.args.recorder.now) (g.R.Record.holds c.happens.new.recorder)
+    c.in-Opened.ensures.step c.in-Opened.ensures.noted c.happens.ensures.recorded c.name.ensures
 
-pub returns-in-Err-clause-does : goal.returns-in-Err-clause-does
-returns-in-Err-clause-does g c =
-    does_one g.S.Sockets.calls g.S.Sockets.failures (Open c.args.address) (Refused c.in-Err.field-0) c.args.server.now.state c.args.sockets.now c.happens.new.self c.open.new.self.state c.refuse.new.self
-    (rw c.copied.ensures at c.happens.ensures.reported) c.happens.ensures.count c.in-Err.ensures.served.step c.refuse.ensures.reported c.refuse.ensures.count
+pub returns-in_default : goal.returns-in_default
+returns-in_default g c = record {
+  does = does_one (Open c.args.address) c.happens.result c.args.server.now c.happens.new.server (g.S.Sockets.told c.args.sockets.now) (g.S.Sockets.told c.refuse.new.self) (g.R.Record.holds c.args.recorder.now) (g.R.Record.holds c.happens.new.recorder)
+      c.happens.ensures.step c.happens.ensures.noted c.happens.ensures.recorded
+      (subst (λ cs. Answers (g.S.Sockets.told c.args.sockets.now) cs (g.S.Sockets.told c.refuse.new.self)) (sym (refused_behind c.args.address c.happens.result c.in_default.not-Opened)) c.refuse.ensures);
+  lawful = search rules;
+}

@@ -22,7 +22,8 @@ pub next_line-requires : goal.next_line-requires
 next_line-requires c =
     let s : ServerState = c.args.self.now.state in
     let x : SessionState = c.index-session.result.now in
-    next_end_is s c.args.c x (found_in c.args.c c.args.place (the_view c.self.inside).state s x (state_is c.self.view_is) c.requires.at c.index-session.ensures) ∙ c.requires.next
+    next_end_is s c.args.c x (found_in (state_is c.self.view_is) c.requires.at c.index-session.ensures) ∙
+    c.requires.next
 
 pub returns-in_err-reply-clause-memory : goal.returns-in_err-reply-clause-memory
 returns-in_err-reply-clause-memory c =
@@ -43,7 +44,8 @@ pub answer-requires-clause-going : goal.answer-requires-clause-going
 answer-requires-clause-going c =
     let s : ServerState = c.args.self.now.state in
     let x : SessionState = c.index_mut-session.result.now in
-    next_end_is s c.args.c x (found_in c.args.c c.args.place (the_view c.self.inside).state s x (state_is c.self.view_is) c.requires.at c.index_mut-session.ensures.value) ∙ c.requires.next
+    next_end_is s c.args.c x (found_in (state_is c.self.view_is) c.requires.at c.index_mut-session.ensures.value) ∙
+    c.requires.next
 
 pub answer-requires-clause-short : goal.answer-requires-clause-short
 answer-requires-clause-short c =
@@ -63,8 +65,9 @@ invariant_of-self-2 c =
     let fits : OrderFits change v.upses = subst (λ (z : ServerState). OrderFits change z.upses) (sym (state_is c.self.view_is)) (order_fits s c.args.c (read_command line) change (change_told s c.args.c line c.in_ok-reply.reply at.told)) in
     let t : ServerState = record v { upses = c.carry_out.new.upses.items; tracking = c.carry_out.new.tracking } in
     let made = changes_made v s change c.carry_out.new.upses.items c.carry_out.new.tracking (state_is c.self.view_is) c.carry_out.ensures.upses c.carry_out.ensures.tracking in
-    let here : StandsAt t c.args.c c.args.place x = stands c.args.c c.args.place t _ x made c.requires.at c.index_mut-session.ensures.value in
-    let going : option_map length (next_line x) ≡ Some c.args.end = next_end_is s c.args.c x (found_in c.args.c c.args.place v s x (state_is c.self.view_is) c.requires.at c.index_mut-session.ensures.value) ∙ c.requires.next in
+    let here : StandsAt t c.args.c c.args.place x = stands made c.requires.at c.index_mut-session.ensures.value in
+    let going : option_map length (next_line x) ≡ Some c.args.end = next_end_is s c.args.c x
+    (found_in (state_is c.self.view_is) c.requires.at c.index_mut-session.ensures.value) ∙ c.requires.next in
     record {
       sound = session_kept t c.args.c c.args.place x c.answer.new.self here.at here.found c.answer.ensures.id
           (answered_kept change (text_with c.carry_out.new.clients c.in_ok-reply.reply) x c.answer.new.self c.args.end going c.answer.ensures.answered)
@@ -83,8 +86,9 @@ returns c =
     let at = heard v s c.args.c c.args.place c.index-session.result.now line _ c.read-read.result (Ok reply) (state_is c.self.view_is) c.requires.at c.index-session.ensures c.next_line.ensures.line c.asker.ensures c.read-read.ensures c.in_ok-reply.ensures in
     let t : ServerState = record v { upses = c.carry_out.new.upses.items; tracking = c.carry_out.new.tracking } in
     let made = changes_made v s change c.carry_out.new.upses.items c.carry_out.new.tracking (state_is c.self.view_is) c.carry_out.ensures.upses c.carry_out.ensures.tracking in
-    let here : StandsAt t c.args.c c.args.place x = stands c.args.c c.args.place t _ x made c.requires.at c.index_mut-session.ensures.value in
-    let next : next_line x ≡ Some line = next_of_found s c.args.c x line (found_in c.args.c c.args.place v s x (state_is c.self.view_is) c.requires.at c.index_mut-session.ensures.value) at.next in
+    let here : StandsAt t c.args.c c.args.place x = stands made c.requires.at c.index_mut-session.ensures.value in
+    let next : next_line x ≡ Some line = next_of_found s c.args.c x line
+    (found_in (state_is c.self.view_is) c.requires.at c.index_mut-session.ensures.value) at.next in
     let after : ServerState = record t { sessions = set t.sessions c.args.place c.answer.new.self } in
     let renders = c.answer.new.scratch.renders in
     record {
@@ -93,7 +97,7 @@ returns c =
       err = tt;
       memory = tt;
       noted = noted_reply s c.args.c line reply c.read-read.result c.index-session.result.now c.args.self.now.notes c.note.new.notes at.next
-          (found_in c.args.c c.args.place v s c.index-session.result.now (state_is c.self.view_is) c.requires.at c.index-session.ensures) at.told (sym c.read-read.ensures)
+          (found_in (state_is c.self.view_is) c.requires.at c.index-session.ensures) at.told (sym c.read-read.ensures)
           (c.note.ensures ∙ ap (with_note (note_in_reply c.index-session.result.now c.read-read.result reply)) (ap (λ (r : RunningServer). r.notes) c.self.view_is));
       unnoted = tt;
       keeps = subst (λ (z : RunningServer). KeepsCount (owed c.args.c z.state) z.cost.rendered (owed c.args.c after) renders) c.self.view_is

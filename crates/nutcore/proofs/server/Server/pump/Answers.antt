@@ -56,7 +56,8 @@ pub invariant_of-self : goal.invariant_of-self
 invariant_of-self c =
     let v : ServerState = (the_view c.self.inside).state in
     let x : SessionState = c.index_mut-session.result.now in
-    let here : StandsAt v c.args.c c.args.place x = stands c.args.c c.args.place v c.loop-end.self.state x (state_is c.self.view_is) c.loop-end.invariant.at c.index_mut-session.ensures.value in
+    let here : StandsAt v c.args.c c.args.place x = stands (state_is c.self.view_is) c.loop-end.invariant.at
+    c.index_mut-session.ensures.value in
     record {
       sound = session_kept v c.args.c c.args.place x c.refuse_overlong.new.self here.at here.found c.refuse_overlong.ensures.id (notified_kept x c.refuse_overlong.new.self c.refuse_overlong.ensures.notified) c.self.invariant.sound;
       room = c.self.invariant.room;
@@ -81,10 +82,11 @@ returns-in-Overlong c =
     let x : SessionState = c.index_mut-session.result.now in
     let y : SessionState = c.refuse_overlong.new.self in
     let le : c.loop-end.done ≤ length (held_of (session c.args.c c.args.self.now.state)) = omega (arith, c.loop-end.invariant.rest) in
-    let had = found_in c.args.c c.args.place (the_view c.self.inside).state t c.index.result.now (state_is c.self.view_is) c.loop-end.invariant.at c.index.ensures in
+    let had = found_in (state_is c.self.view_is) c.loop-end.invariant.at c.index.ensures in
     let none : next_line_for t c.args.c ≡ None = ap (option_and_then next_line) had ∙ c.in-Overlong.ensures.0 in
     let long : is_overlong t c.args.c ≡ true = ap (λ (o : Option SessionState). option_map_or holds_overlong o false) had ∙ c.in-Overlong.ensures.1 in
-    let here : StandsAt v c.args.c c.args.place x = stands c.args.c c.args.place v t x (state_is c.self.view_is) c.loop-end.invariant.at c.index_mut-session.ensures.value in
+    let here : StandsAt v c.args.c c.args.place x = stands (state_is c.self.view_is) c.loop-end.invariant.at
+    c.index_mut-session.ensures.value in
     let found : session c.args.c t ≡ Some x = ap (session c.args.c) (sym (state_is c.self.view_is)) ∙ here.found in
     let notified_is = change_set notified v c.args.c c.args.place x y here.at here.found refl c.refuse_overlong.ensures.notified ∙ ap (with_session_changed notified c.args.c) (state_is c.self.view_is) in
     let u : ServerState = record v { sessions = set v.sessions c.args.place y } in
@@ -102,7 +104,7 @@ pub returns-in-Nothing : goal.returns-in-Nothing
 returns-in-Nothing c =
     let t : ServerState = c.loop-end.self.state in
     let le : c.loop-end.done ≤ length (held_of (session c.args.c c.args.self.now.state)) = omega (arith, c.loop-end.invariant.rest) in
-    let had = found_in c.args.c c.args.place (the_view c.self.inside).state t c.index.result.now (state_is c.self.view_is) c.loop-end.invariant.at c.index.ensures in
+    let had = found_in (state_is c.self.view_is) c.loop-end.invariant.at c.index.ensures in
     let none : next_line_for t c.args.c ≡ None = ap (option_and_then next_line) had ∙ c.in-Nothing.ensures.0 in
     let short : is_overlong t c.args.c ≡ false = ap (λ (o : Option SessionState). option_map_or holds_overlong o false) had ∙ c.in-Nothing.ensures.1 in
     record {

@@ -13,7 +13,7 @@ pub overflow_sub-self : goal.overflow_sub-self
 overflow_sub-self c =
     let s : ServerState = c.pump-pumped.new.self.state in
     let x : SessionState = c.index-session.result.now in
-    let found = found_in c.args.c c.args.place (the_view c.self.inside).state s x (state_is c.self.view_is) c.pump-pumped.ensures.at c.index-session.ensures in
+    let found = found_in (state_is c.self.view_is) c.pump-pumped.ensures.at c.index-session.ensures in
     let within = rw found at (c.pump-pumped.ensures.keeps c.args.kept c.requires.counted).within in
     omega (arith, within, c.offered.ensures)
 
@@ -22,7 +22,7 @@ returns-clause-cost c =
     let v : ServerState = (the_view c.self.inside).state in
     let s : ServerState = c.pump-pumped.new.self.state in
     let x : SessionState = c.index-session.result.now in
-    let here = stands c.args.c c.args.place v s x (state_is c.self.view_is) c.pump-pumped.ensures.at c.index-session.ensures in
+    let here = stands (state_is c.self.view_is) c.pump-pumped.ensures.at c.index-session.ensures in
     placed_behind (offered (session c.args.c v)) c.args.kept c.self.inside.scratch.renders c.offered.result
     (ap (λ (r : RunningServer). r.cost.rendered) c.self.view_is ∙ (c.pump-pumped.ensures.keeps c.args.kept c.requires.counted).counted ∙ ap (λ (z : ServerState). lines (drop c.args.kept (offered (session c.args.c z)))) (sym (state_is c.self.view_is)))
     (c.offered.ensures ∙ sym (ap (λ (o : Option SessionState). length (offered o)) here.found))

@@ -18,9 +18,8 @@ loop-place-preserved c =
     let within : p < length xs = omega (arith, c.loop-place-test.true, c.len-place-end.ensures) in
     let there : slice_get xs p ≡ Some x = there_is xs p x within c.index-ups.ensures in
     let next : suc p ≡ p + 1 = omega arith in
-    c.extend.ensures
-    ∙ one_noted (so_far p) c.data_note.result c.loop-place.notes c.loop-place.invariant
-    ∙ ap (λ (o : Option Note). take NOTE_LIMIT (so_far p ++ cons_option o [])) c.data_note.ensures
+    c.note_data.ensures
+    ∙ one_noted (so_far p) _ c.loop-place.notes c.loop-place.invariant
     ∙ ap (λ (o : Option Note). take NOTE_LIMIT (so_far p ++ cons_option o [])) (ap₂ (data_note (id_at p)) c.data_state.ensures c.data_state-in-loop-place.ensures)
     ∙ ap (λ (k : ℕ). take NOTE_LIMIT (so_far p ++ ticked c.args.max_age c.args.was c.args.is k x)) (sym (zero-add p))
     ∙ ap (take NOTE_LIMIT) (sym (ticked_so_far c.args.max_age c.args.was c.args.is 0 p xs x there) ∙ ap so_far next)

@@ -1,5 +1,4 @@
 use Rattle.std.proofs.Common.{◌≡◌, ◌∙◌, Option, Some, None, refl, ap, ap₂, cond}
-use Rattle.nutdriver.specs.declared.fault.DriverFault.{DriverFault}
 use Rattle.nutcore.specs.Notes.{fault_of, data_note}
 use Rattle.nutcore.specs.Promises.{front_or, with_note}
 use Rattle.nutcore.specs.Ups.{with_faulty_line}
@@ -15,13 +14,13 @@ returns-clause-done c =
     let z = c.apply.new.self in
     let o = c.in_ok-outcome.outcome in
     let left : c.if-settle.self ≡ cond b (with_faulty_line z) z = elim c.if-settle.branch [
-      | then-settle w ↦ rw (w.self-is, w.if-settle.true) w.count_refused.ensures
+      | then-settle w ↦ rw (w.self-is, w.if-settle.true) w.refuse.ensures.counted
       | else-settle w ↦ rw (w.self-is, w.if-settle.false) refl
     ] in
     let two : c.if-settle.notes ≡ with_note (cond b (Some (LineRefused c.args.u (fault_of o))) None) c.apply.new.notes = elim c.if-settle.branch [
-      | then-settle w ↦ rw (w.notes-is, w.if-settle.true) (w.extend.ensures ∙ ap (λ (f : Option DriverFault). with_note (Some (LineRefused c.args.u f)) c.apply.new.notes) w.fault_of.ensures)
+      | then-settle w ↦ rw (w.notes-is, w.if-settle.true) w.refuse.ensures.noted
       | else-settle w ↦ rw (w.notes-is, w.if-settle.false) refl
     ] in
-    let three = c.extend-2.ensures ∙ ap (λ (n : Option Note). with_note n c.if-settle.notes) (c.data_note.ensures ∙ ap₂ (data_note c.args.u) c.data_state-was.ensures c.data_state.ensures) in
-    does_line c.args.now.max_age c.args.now.seconds c.args.u (front_or c.args.count c.args.piece.now c.args.self.now.unfinished) c.args.self.now c.args.tracking.now c.args.notes.now o z b c.if-settle.self c.settle.new.tracking c.apply.new.notes c.if-settle.notes c.extend-2.new.self
+    let three = c.note_data.ensures ∙ ap (λ (n : Option Note). with_note n c.if-settle.notes) (ap₂ (data_note c.args.u) c.data_state-was.ensures c.data_state-is.ensures) in
+    does_line c.args.now.max_age c.args.now.seconds c.args.u (front_or c.args.count c.args.piece.now c.args.self.now.unfinished) c.args.self.now c.args.tracking.now c.args.notes.now o z b c.if-settle.self c.settle.new.tracking c.apply.new.notes c.if-settle.notes c.note_data.new.notes
     c.in_ok-outcome.ensures.done c.settle.ensures.answer c.settle.ensures.after left c.requires.room c.in_ok-outcome.ensures.noted two three

@@ -1,6 +1,6 @@
 use Rattle.std.proofs.Common.{refl}
 use Rattle.nutreplay.proofs.Recording.{added, is_off}
-use Rattle.nutreplay.proofs.recorder.Recorder.event.Goals as goal
+use Rattle.nutreplay.proofs.recorder.RecorderRecord.event.Goals as goal
 
 pub returns-then-not-self : goal.returns-then-not-self
 returns-then-not-self g c =
