@@ -32,7 +32,7 @@ changed_without : (change : Change) (line text : List ℕ) (x : SessionState) �
 changed_without change line text x = grind arith
 
 -- the server: what is answered is the same
-core_alike : (s : ServerState) (c : ℕ) (line : List ℕ) → IsAlike (apart_from_bytes s) s c c line
+pub core_alike : (s : ServerState) (c : ℕ) (line : List ℕ) → IsAlike (apart_from_bytes s) s c c line
 core_alike s c line =
     reply_of_seen (apart_from_bytes s) s c c line
     (ap (λ (clients : List ClientSeen). let v : Seen = record (seen s) { clients = clients } in v) (seen_without s.sessions))
@@ -45,7 +45,7 @@ core_bytes f id same s c =
     (λ x e. ap (λ (xs : List SessionState). let t : ServerState = record s { sessions = xs } in t) (mapped_put without_bytes x (f x) s.sessions (ap (λ k. find k s.sessions) (id x ∙ find_id c s.sessions x e) ∙ e) (same x)))
     (λ e. refl)
 
-core_input : (s : ServerState) (c : ℕ) (piece : List ℕ) → apart_from_bytes (with_input s c piece) ≡ apart_from_bytes s
+pub core_input : (s : ServerState) (c : ℕ) (piece : List ℕ) → apart_from_bytes (with_input s c piece) ≡ apart_from_bytes s
 unfolding with_input
 core_input s c piece = core_bytes (joined piece) (λ x. refl) (λ x. refl) s c
 

@@ -30,6 +30,7 @@ mod ShutdownMarks
 mod Lasting
 mod Endings
 mod Alone
+mod AtOnce
 mod SessionMarks
 mod LoginCount
 mod Isolation

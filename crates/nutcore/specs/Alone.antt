@@ -1,11 +1,16 @@
 -- A client that sends one line, among any other clients.
-use Rattle.std.specs.Prelude.{◌≡◌, ℕ, false, List, [], ◌∷◌, None}
+use Rattle.std.specs.Prelude.{◌≡◌, ◌≤◌, ℕ, false, List, [], ◌∷◌, Some, None, length}
 use Rattle.nutwords.specs.SplitLine.{has_lf}
 use Rattle.nutcore.specs.declared.event.Event.{Event}
+use Rattle.nutcore.specs.declared.event.Event.TheVariants.{Feed}
 use Rattle.nutcore.specs.declared.event.Outcome.{Outcome}
+use Rattle.nutcore.specs.declared.event.Outcome.TheVariants.{Fed}
+use Rattle.nutcore.specs.declared.TheConstants.{HELD_LIMIT}
 use Rattle.nutwords.specs.Text.{with_lf}
+use Rattle.nutcore.specs.Session.{SessionState}
 use Rattle.nutcore.specs.Server.{ServerState, session}
 use Rattle.nutcore.specs.Reply.{reply}
+use Rattle.nutcore.specs.Step.{Step}
 use Rattle.nutcore.specs.Run.{Run}
 use Rattle.nutcore.specs.History.{of_line, executions, of_client, taken, asked, owed, held, is_over}
 use Rattle.nutcore.specs.Headline.{IsLawful}
@@ -26,3 +31,17 @@ OneLineIsAnswered =
     → IsLawful old → session c old ≡ None → Run old events outcomes new
     → asked c old events outcomes ≡ with_lf line → has_lf line ≡ false → is_over c new ≡ false
     → held c new ≡ [] → owed c new ≡ [] → WasAnswered c old events outcomes line
+
+-- The session goes on, holds nothing and owes nothing.
+pub record IsIdle (x : SessionState) : Type 0 where
+  pub going : x.ending ≡ false
+  pub held : x.held ≡ []
+  pub owed : x.owed ≡ []
+
+-- Where one whole line of such a client comes, and memory isn't refused, the client is owed exactly
+-- the reply to it on the server as it was.
+abbrev pub ALineIsAnsweredAtOnce : Type 0
+ALineIsAnsweredAtOnce =
+    (old new : ServerState) (c n : ℕ) (line : List ℕ) (x : SessionState) → session c old ≡ Some x
+    → IsIdle x → has_lf line ≡ false → length (with_lf line) ≤ HELD_LIMIT
+    → Step old (Feed c (with_lf line)) (Fed n) new → owed c new ≡ reply old c line

@@ -10,3 +10,9 @@ Run old [] [] new = new ≡ old
 Run old (e ∷ es) (o ∷ os) new = (mid : ServerState) × Step old e o mid × Run mid es os new
 Run old [] (o ∷ os) new = ⊥
 Run old (e ∷ es) [] new = ⊥
+
+-- Every list of events has a run: nothing that peers do is without an outcome.
+abbrev pub EveryListOfEventsHasARun : Type 0
+EveryListOfEventsHasARun =
+    (old : ServerState) (events : List Event)
+    → (outcomes : List Outcome) × ((new : ServerState) × Run old events outcomes new)

@@ -3,7 +3,7 @@ ghost use Rattle.nutcore.specs.Headline.{WhatWasSentAndIsOwedIsTheAnswers, WhatW
 ghost use Rattle.nutcore.specs.ByRight.{AForcedShutdownReachesEverybody, ALoginIsByRight, CredentialsAreGivenByLines, WhatIsCountedIsWhoIsThere};
 ghost use Rattle.nutcore.specs.Lasting.{WhatNeverGoesBack};
 ghost use Rattle.nutcore.specs.Endings.{WhoIsOverIsAskedNoMore, IdsThatAreGivenRise, ATickTouchesNoSession, AnOpeningTouchesNoOther};
-ghost use Rattle.nutcore.specs.Alone.{OneLineIsAnswered};
+ghost use Rattle.nutcore.specs.Alone.{ALineIsAnsweredAtOnce, OneLineIsAnswered};
 ghost use Rattle.nutcore.specs.OrdersByRight.{EachOrderIsByRight, TheOrdersGivenAreThoseOfTheLines};
 ghost use Rattle.nutcore.specs.ServerLines.{EachLineToADriverIsWhole};
 ghost use Rattle.nutcore.specs.Isolation.{AClientTouchesNoOther, ADriverTouchesNoOther, ARefusedEventChangesNothing, ARefusedEventCostsNothing};
@@ -24,6 +24,7 @@ ghost use Rattle.nutcore.specs.Listed.{EachIsListedOnce, WhatIsListedIsWhatIsHel
 ghost use Rattle.nutcore.specs.ReadsBack.{EachListingReadsBack};
 ghost use Rattle.nutcore.specs.AnswersApart.{TheAnswersOfARunAreCutInOneWay};
 ghost use Rattle.nutcore.specs.Addresses.{ANewServerHasLawfulAddresses, EveryRunKeepsAddressesLawful, EveryRunKeepsTheList};
+ghost use Rattle.nutcore.specs.Run.{EveryListOfEventsHasARun};
 ghost use Rattle.nutcore.specs.Sound.{ANewServerIsSound, EachEventKeepsTheServerSound, EveryRunKeepsTheServerSound, ASoundServerIsLawful};
 
 use nutanswer::laws::{only_ok_changes, what_is_answered_is_fresh};
@@ -105,6 +106,12 @@ pub fn what_is_counted_is_who_is_there()
 #[tactic(auto, using(crate::proofs::Alone::one_line_answered))]
 pub fn one_line_is_answered()
     ensures { OneLineIsAnswered }
+{}
+
+/// A client that holds nothing and is owed nothing is owed, after one whole line, exactly the reply
+/// to it, unless memory is refused.
+pub fn a_line_is_answered_at_once()
+    ensures { ALineIsAnsweredAtOnce }
 {}
 
 /// A session's user name, password and login stay as given. An ending session goes on ending, a
@@ -316,9 +323,10 @@ pub fn nobody_is_stuck()
 {}
 
 /// A server, an event and its outcome have one next server and, unless memory is refused, one
-/// outcome.
+/// outcome. So every list of events has a run.
 pub fn each_event_is_a_function()
-    ensures { EachEventIsAFunction }
+    ensures one { EachEventIsAFunction }
+    ensures run { EveryListOfEventsHasARun }
 {}
 
 /// The limits of sessions, of what drivers are owed and of an event's notes, and MAXAGE in seconds.

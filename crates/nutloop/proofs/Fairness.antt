@@ -2,6 +2,8 @@
 use Rattle.std.proofs.Common.{◌≡◌, ◌⊎◌, ◌+◌, ◌<◌, ◌≤◌, ℕ, Bool, true, false, List, [], ◌∷◌, length, Option, Some, None, refl, sym, subst, ap, ◌∙◌, inl, inr, arith}
 use Rattle.std.specs.Prelude.{◌&&◌, not, nat_lt}
 use Rattle.nutcore.specs.Recording.{Recorded}
+use Rattle.nutcore.specs.Server.{ServerState}
+use Rattle.nutloop.specs.declared.sockets.Ready.{Ready}
 use Rattle.nutloop.specs.declared.over_mio.pass.Pass.{Pass}
 use Rattle.nutloop.specs.declared.over_mio.pass.Stop.{Stop}
 use Rattle.nutloop.specs.declared.over_mio.pass.TheConstants.{STOPS, TURNS_PER_LOOK}
@@ -9,7 +11,7 @@ use Rattle.nutloop.specs.Pass.{HasNext, HasTurn, IsOver, WasVisited, again, fres
 use Rattle.nutloop.specs.Sockets.{Passing, Told, pass_of}
 use Rattle.nutloop.specs.Turn.{IsTurn, LoopState}
 use Rattle.nutloop.specs.Serving.{Running}
-use Rattle.nutloop.specs.Fairness.{EverybodyHasATurn, FromLookToLook, HadTurn, IsFirst, IsNext, Turn, WasUnready, WithoutALook, turns_in}
+use Rattle.nutloop.specs.Fairness.{EverybodyHasATurn, FindsWith, FromLookToLook, HadTurn, IsOneOf, Turn, WasUnready, WithoutALook, turns_in}
 
 -- Turns of peers, one after another, without a look.
 abbrev GoThrough : Pass → List Turn → Pass → Type 0
@@ -76,7 +78,7 @@ counted_turn : (may : Stop → Bool) (old new : Pass) (visited : Stop) → Count
     → (new.turns ≡ old.turns + 1) × Counted new
 counted_turn may old new visited is turn =
     let turns : new.turns ≡ old.turns + 1 = omega (arith, turn.turns, is.few, is.within) in
-    (turns, record { within = turn.within; few = omega (arith, turns, turn.more, is.few) })
+    (turns, record { within = turn.within; few = omega (arith, turns, turn.later, turn.next, is.few) })
 
 counted_next : (t : Turn) (old : Pass) → Counted old → HasNext t.may old t.visited t.pass
     → (t.pass.turns ≡ old.turns + 1) × Counted t.pass
@@ -114,54 +116,89 @@ nobody_ready may pass s true is none over = absurd (unmade (over.nobody s is))
     unmade : WasVisited pass s → ⊥
     unmade h = omega (arith, none, h)
 
--- The turns of serving are such turns.
+-- What a turn of serving leaves of the pass.
+abbrev pub Goes : Pass → Option Turn → Pass → Type 0
+Goes old None new = new ≡ old
+Goes old (Some t) new = (new ≡ t.pass) × HasNext t.may old t.visited t.pass
+
 some_is : {A : Type 0} (x y : A) (o : Option A) → o ≡ Some x → o ≡ Some y → x ≡ y
 some_is x y o h k = cc (h, k)
 
-keeps_pass : (old new : LoopState) (t : IsTurn old new) (is : Passing) → t.mid.passing ≡ Some is → pass_of new.sockets.passing ≡ Some is.pass
-keeps_pass old new t is found = t.row.does.reported.pass ∙ t.row.called.pass ∙ ap pass_of found
+record GoesTo (old : Pass) (t : Option Turn) (is : Pass) : Type 0 where
+  new : Pass
+  goes : Goes old t new
+  same : is ≡ new
+
+after_a_look : (s : ServerState) (o : Option Passing) (ready : Ready) (t : Option Turn) (is : Passing) → FindsWith true s o ready t is → GoesTo fresh t is.pass
+after_a_look s o ready None is h = record { new = fresh; goes = refl; same = h }
+after_a_look s o ready (Some t) is h = record { new = t.pass; goes = (refl, inl h.3); same = sym h.1 }
+
+without_a_look : (s : ServerState) (o : Option Passing) (ready : Ready) (t : Option Turn) (is : Passing) (pass : Pass) → FindsWith false s o ready t is → pass_of o ≡ Some pass → GoesTo pass t is.pass
+without_a_look s None ready t is pass h at = absurd h
+without_a_look s (Some was) ready None is pass h at = record { new = pass; goes = refl; same = h.1 ∙ some_is was.pass pass (pass_of (Some was)) refl at }
+without_a_look s (Some was) ready (Some t) is pass h at =
+    record { new = t.pass; goes = (refl, subst (λ (p : Pass). HasNext t.may p t.visited t.pass) (some_is was.pass pass (pass_of (Some was)) refl at) h.3); same = sym h.1 }
+
+keeps_pass : (old new : LoopState) (t : IsTurn old new) (is : Passing) (pass : Pass) → t.mid.passing ≡ Some is → is.pass ≡ pass → pass_of new.sockets.passing ≡ Some pass
+keeps_pass old new t is pass found same = t.row.does.reported.pass ∙ t.row.called.pass ∙ ap pass_of found ∙ ap (λ p. Some p) same
 
 module _ {S R : Type 0} (told : S → Told) (holds : R → Recorded) where
   -- How far the sockets have come.
   abbrev IsAt : Running S R → Pass → Type 0
   IsAt r pass = pass_of (told r.sockets).passing ≡ Some pass
 
-  record Reaches (old : Pass) (ts : List Turn) (new : Running S R) : Type 0 where
+  -- Turns of serving, one after another, and what they leave of the pass.
+  pub record GoesOne (old : Running S R) (before : Pass) (t : Option Turn) (after : Pass) (new : Running S R) : Type 0 where
+    pub looks : Bool
+    pub one : IsOneOf told holds looks old t new
+    pub goes : Goes before t after
+
+  abbrev pub GoAll : Running S R → Pass → List (Option Turn) → Pass → Running S R → Type 0
+  GoAll old before [] after new = (new ≡ old) × (after ≡ before)
+  GoAll old before (t ∷ ts) after new = (mid : Running S R) × ((pass : Pass) × GoesOne old before t pass mid × GoAll mid pass ts after new)
+
+  record Reaches (old : Running S R) (before : Pass) (ts : List (Option Turn)) (new : Running S R) : Type 0 where
     last : Pass
     at : IsAt new last
-    go : GoThrough old ts last
+    go : GoAll old before ts last new
 
-  go_on : (old : Running S R) (pass : Pass) (ts : List (Option Turn)) (new : Running S R) → IsAt old pass → WithoutALook told holds old ts new → Reaches pass (turns_in ts) new
-  go_on old pass [] new at same = record { last = pass; at = subst (λ (r : Running S R). IsAt r pass) (sym same) at; go = refl }
-  go_on old pass (None ∷ ts) new at (mid, next, rest) =
-      let same : next.is.pass ≡ pass = next.goes_on.1 ∙ some_is next.was.pass pass (pass_of (told old.sockets).passing) (ap pass_of next.before) at in
-      go_on mid pass ts new (keeps_pass _ _ next.turn next.is next.found ∙ ap (λ p. Some p) same) rest
-  go_on old pass (Some t ∷ ts) new at (mid, next, rest) =
-      let was : next.was.pass ≡ pass = some_is next.was.pass pass (pass_of (told old.sockets).passing) (ap pass_of next.before) at in
-      let is : t.pass ≡ next.is.pass = next.goes_on.1 in
-      let later = go_on mid t.pass ts new (keeps_pass _ _ next.turn next.is next.found ∙ ap (λ p. Some p) (sym is)) rest in
-      record { last = later.last; at = later.at; go = (subst (λ (p : Pass). HasNext t.may p t.visited t.pass) was next.goes_on.3, later.go) }
+  go_on : (old : Running S R) (pass : Pass) (ts : List (Option Turn)) (new : Running S R) → IsAt old pass → WithoutALook told holds old ts new → Reaches old pass ts new
+  go_on old pass [] new at same = record { last = pass; at = subst (λ (r : Running S R). IsAt r pass) (sym same) at; go = (same, refl) }
+  go_on old pass (t ∷ ts) new at (mid, one, rest) =
+      let is = without_a_look old.server.state (told old.sockets).passing one.turn.ready t one.is pass one.finds at in
+      let later = go_on mid is.new ts new (keeps_pass _ _ one.turn one.is is.new one.found is.same) rest in
+      record { last = later.last; at = later.at; go = (mid, (is.new, record { looks = false; one = one; goes = is.goes }, later.go)) }
 
-  from_look : (old mid : Running S R) (first : Option Turn) (later : List (Option Turn)) (new : Running S R) → IsFirst told holds old first mid → WithoutALook told holds mid later new → Reaches fresh (turns_in (first ∷ later)) new
-  from_look old mid None later new first rest =
-      go_on mid fresh later new (keeps_pass _ _ first.turn first.is first.found ∙ ap (λ p. Some p) first.begins) rest
-  from_look old mid (Some t) later new first rest =
-      let after = go_on mid t.pass later new (keeps_pass _ _ first.turn first.is first.found ∙ ap (λ p. Some p) (sym first.begins.1)) rest in
-      record { last = after.last; at = after.at; go = (inl first.begins.3, after.go) }
+  from_look : (old mid : Running S R) (first : Option Turn) (later : List (Option Turn)) (new : Running S R) → IsOneOf told holds true old first mid → WithoutALook told holds mid later new → Reaches old fresh (first ∷ later) new
+  from_look old mid first later new one rest =
+      let is = after_a_look old.server.state (told old.sockets).passing one.turn.ready first one.is one.finds in
+      let all = go_on mid is.new later new (keeps_pass _ _ one.turn one.is is.new one.found is.same) rest in
+      record { last = all.last; at = all.at; go = (mid, (is.new, record { looks = true; one = one; goes = is.goes }, all.go)) }
 
   -- The pass of a look is the one that the turns before it reached.
-  reached : (old : Running S R) (turns : List Turn) (new : Running S R) (looks : FromLookToLook told holds old turns new) → GoThrough fresh turns looks.is.pass
+  pub reached : (old : Running S R) (turns : List Turn) (new : Running S R) (looks : FromLookToLook told holds old turns new) → GoAll old fresh (looks.first ∷ looks.later) looks.is.pass new
   reached old turns new looks =
       let all = from_look old looks.mid looks.first looks.later new looks.begins looks.goes_on in
       let same : all.last ≡ looks.is.pass = some_is all.last looks.is.pass (pass_of (told new.sockets).passing) all.at (ap pass_of looks.before) in
-      subst (λ (ts : List Turn). GoThrough fresh ts looks.is.pass) (sym looks.all) (subst (λ (p : Pass). GoThrough fresh (turns_in (looks.first ∷ looks.later)) p) same all.go)
+      subst (λ (p : Pass). GoAll old fresh (looks.first ∷ looks.later) p new) same all.go
+
+  -- Those of peers.
+  of_peers : (old : Running S R) (before : Pass) (ts : List (Option Turn)) (after : Pass) (new : Running S R) → GoAll old before ts after new → GoThrough before (turns_in ts) after
+  of_peers old before [] after new go = go.1
+  of_peers old before (None ∷ ts) after new (mid, (pass, one, go)) = subst (λ (p : Pass). GoThrough p (turns_in ts) after) one.goes (of_peers mid pass ts after new go)
+  of_peers old before (Some t ∷ ts) after new (mid, (pass, one, go)) =
+      (one.goes.1, subst (λ (p : Pass). GoThrough p (turns_in ts) after) one.goes.0 (of_peers mid pass ts after new go))
+
+  go_through : (old : Running S R) (turns : List Turn) (new : Running S R) (looks : FromLookToLook told holds old turns new) → GoThrough fresh turns looks.is.pass
+  go_through old turns new looks =
+      subst (λ (ts : List Turn). GoThrough fresh ts looks.is.pass) (sym looks.all) (of_peers old fresh (looks.first ∷ looks.later) looks.is.pass new (reached old turns new looks))
 
   pub everybody_has_a_turn : EverybodyHasATurn told holds
   everybody_has_a_turn = record {
     each = λ old new turns looks s.
-        each_has turns looks.is.pass looks.is.pass (looks.is.may new.server.state) s (looks.is.may new.server.state s) refl (reached old turns new looks) looks.over;
-    few = λ old new turns looks. omega (arith, counted_all fresh turns looks.is.pass (record { within = omega arith; few = omega arith }) (reached old turns new looks));
+        each_has turns looks.is.pass looks.is.pass (looks.is.may new.server.state) s (looks.is.may new.server.state s) refl (go_through old turns new looks) looks.over;
+    few = λ old new turns looks. omega (arith, counted_all fresh turns looks.is.pass (record { within = omega arith; few = omega arith }) (go_through old turns new looks));
     awake = λ old new turns looks s idle.
         nobody_ready (looks.is.may new.server.state) looks.is.pass s (looks.is.may new.server.state s) refl
-        (told_all fresh turns looks.is.pass (λ none. refl) (reached old turns new looks) idle) looks.over;
+        (told_all fresh turns looks.is.pass (λ none. refl) (go_through old turns new looks) idle) looks.over;
   }

@@ -3,4 +3,5 @@ pub mod Moving
 pub mod Turning
 pub mod SocketToSocket
 pub mod Fairness
+pub mod InTime
 pub mod Answering

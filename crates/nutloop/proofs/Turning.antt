@@ -40,13 +40,13 @@ use Rattle.nutloop.proofs.Rows.{follows_nothing, follows_joins, continues_nothin
 use Rattle.nutloop.proofs.Moving.{Fit, row_moves, behind_all}
 
 -- Runs and what is found along them are joined.
-run_joins : (s mid new : ServerState) (es fs : List Event) (os qs : List Outcome) → Run s es os mid → Run mid fs qs new → Run s (es ++ fs) (os ++ qs) new
+pub run_joins : (s mid new : ServerState) (es fs : List Event) (os qs : List Outcome) → Run s es os mid → Run mid fs qs new → Run s (es ++ fs) (os ++ qs) new
 run_joins s mid new [] fs [] qs r q = subst (λ t. Run t fs qs new) r q
 run_joins s mid new [] fs (o ∷ os) qs r q = absurd r
 run_joins s mid new (e ∷ es) fs [] qs r q = absurd r
 run_joins s mid new (e ∷ es) fs (o ∷ os) qs r q = (r.0, r.1, run_joins r.0 mid new es fs os qs r.2 q)
 
-along_joins : (f : ServerState → Event → List ℕ) (s mid : ServerState) (es fs : List Event) (os qs : List Outcome) → Run s es os mid → along f s (es ++ fs) (os ++ qs) ≡ along f s es os ++ along f mid fs qs
+pub along_joins : (f : ServerState → Event → List ℕ) (s mid : ServerState) (es fs : List Event) (os qs : List Outcome) → Run s es os mid → along f s (es ++ fs) (os ++ qs) ≡ along f s es os ++ along f mid fs qs
 along_joins f s mid [] fs [] qs r = ap (λ t. along f t fs qs) (sym r)
 along_joins f s mid [] fs (o ∷ os) qs r = absurd r
 along_joins f s mid (e ∷ es) fs [] qs r = absurd r
@@ -81,7 +81,7 @@ pub record Moves (old : ServerState) (a : Told) (holds : Recorded) (new : Server
   pub moves : (g : Call → List ℕ) (f : ServerState → Event → List ℕ) → Fit g f → flat_map g since ≡ along f old events outcomes
 
 -- The calls of a row.
-row_reads : (g : Call → List ℕ) (f : ServerState → Event → List ℕ) → Fit g f → (r : Ready) (a b : List Call) (bytes : List ℕ) → flat_map g a ≡ bytes → flat_map g b ≡ [] → flat_map g ((Readied r ∷ a) ++ b) ≡ bytes
+pub row_reads : (g : Call → List ℕ) (f : ServerState → Event → List ℕ) → Fit g f → (r : Ready) (a b : List Call) (bytes : List ℕ) → flat_map g a ≡ bytes → flat_map g b ≡ [] → flat_map g ((Readied r ∷ a) ++ b) ≡ bytes
 row_reads g f fit r a b bytes ha hb =
     flat_map-append g (Readied r ∷ a) b
     ∙ ap (λ v. (v ++ flat_map g a) ++ flat_map g b) (fit.readied r)
@@ -163,7 +163,7 @@ module _ {S R : Type 0} (told : S → Told) (holds : R → Recorded) where
   abbrev pub Between : Running S R → Running S R → Type 0
   Between old new = Moves old.server.state (told old.sockets) (holds old.kept) new.server.state (told new.sockets) (holds new.kept)
 
-  abbrev still : (old new : Running S R) → new ≡ old → Between old new
+  abbrev pub still : (old new : Running S R) → new ≡ old → Between old new
   still old new same = record {
     since = [];
     events = [];
@@ -174,10 +174,10 @@ module _ {S R : Type 0} (told : S → Told) (holds : R → Recorded) where
     moves = λ g f fit. refl;
   }
 
-  abbrev joined : (old mid new : Running S R) → Between old mid → Between mid new → Between old new
+  abbrev pub joined : (old mid new : Running S R) → Between old mid → Between mid new → Between old new
   joined old mid new x y = both_are_moved old.server.state mid.server.state new.server.state (told old.sockets) (told mid.sockets) (told new.sockets) (holds old.kept) (holds mid.kept) (holds new.kept) x y
 
-  abbrev one : (old new : Running S R) → IsTurn (before_turn told holds old) (seen told holds new) → Between old new
+  abbrev pub one : (old new : Running S R) → IsTurn (before_turn told holds old) (seen told holds new) → Between old new
   one old new t = turn_is_moved (before_turn told holds old) (seen told holds new) t
 
   turns_are_moved : (n : ℕ) (old new : Running S R) → Turns told holds old n new → Between old new

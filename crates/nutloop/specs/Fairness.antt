@@ -1,6 +1,6 @@
 -- What holds between two looks at the system: everybody who is ready has a turn, turns are few, and
 -- nobody who is ready is slept over.
-use Rattle.std.specs.Prelude.{◌≡◌, ◌⊎◌, ◌+◌, ◌≤◌, ℕ, Bool, false, List, [], ◌∷◌, length}
+use Rattle.std.specs.Prelude.{◌≡◌, ◌⊎◌, ◌+◌, ◌≤◌, ℕ, Bool, true, false, List, [], ◌∷◌, length}
 use Rattle.std.specs.Prelude.{Option, Some, None}
 use Rattle.std.specs.List.{cons_option}
 use Rattle.nutcore.specs.Recording.{Recorded}
@@ -47,26 +47,24 @@ GoesOnWith s old ready (Some t) new =
     (t.may ≡ old.may s) × (t.pass ≡ new.pass) × (ready ≡ old.ready_at s t.visited)
     × HasNext t.may old.pass t.visited t.pass
 
-module _ {S R : Type 0} (told : S → Told) (holds : R → Recorded) where
-  -- A turn of serving that comes after a look,
-  pub record IsFirst (old : Running S R) (first : Option Turn) (new : Running S R) : Type 0 where
-    pub turn : IsTurn (before_turn told holds old) (seen told holds new)
-    pub is : Passing
-    pub found : turn.mid.passing ≡ Some is
-    pub begins : BeginsWith old.server.state turn.ready first is
+-- What a turn finds: after a look, or without one.
+abbrev pub FindsWith : Bool → ServerState → Option Passing → Ready → Option Turn → Passing → Type 0
+FindsWith true s old ready t new = BeginsWith s ready t new
+FindsWith false s None ready t new = ⊥
+FindsWith false s (Some old) ready t new = GoesOnWith s old ready t new
 
-  -- and one that comes without.
-  pub record IsNext (old : Running S R) (next : Option Turn) (new : Running S R) : Type 0 where
+module _ {S R : Type 0} (told : S → Told) (holds : R → Recorded) where
+  -- A turn of serving, and the turn of a pass that it is, if it is one.
+  pub record IsOneOf (looks : Bool) (old : Running S R) (t : Option Turn) (new : Running S R) : Type 0 where
     pub turn : IsTurn (before_turn told holds old) (seen told holds new)
-    pub was : Passing
     pub is : Passing
-    pub before : (told old.sockets).passing ≡ Some was
     pub found : turn.mid.passing ≡ Some is
-    pub goes_on : GoesOnWith old.server.state was turn.ready next is
+    pub finds : FindsWith looks old.server.state (told old.sockets).passing turn.ready t is
 
   abbrev pub WithoutALook : Running S R → List (Option Turn) → Running S R → Type 0
   WithoutALook old [] new = new ≡ old
-  WithoutALook old (t ∷ ts) new = (mid : Running S R) × IsNext old t mid × WithoutALook mid ts new
+  WithoutALook old (t ∷ ts) new =
+      (mid : Running S R) × IsOneOf false old t mid × WithoutALook mid ts new
 
   -- The turns from one look up to the next one, before which nobody has a turn any more.
   pub record FromLookToLook (old : Running S R) (turns : List Turn) (new : Running S R) : Type 0 where
@@ -74,7 +72,7 @@ module _ {S R : Type 0} (told : S → Told) (holds : R → Recorded) where
     pub mid : Running S R
     pub later : List (Option Turn)
     pub is : Passing
-    pub begins : IsFirst old first mid
+    pub begins : IsOneOf true old first mid
     pub goes_on : WithoutALook mid later new
     pub all : turns ≡ turns_in (first ∷ later)
     pub before : (told new.sockets).passing ≡ Some is

@@ -11,4 +11,5 @@ pub mod Serving
 pub mod Moved
 pub mod SocketToSocket
 pub mod Fairness
+pub mod InTime
 pub mod Tokens

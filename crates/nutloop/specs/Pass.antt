@@ -82,7 +82,8 @@ WasVisited pass s = number s < pass.next
 pub record HasTurn (may : Stop → Bool) (old : Pass) (visited : Stop) (new : Pass) : Type 0 where
   pub ready : may visited ≡ true
   pub others : (s : Stop) → WasVisited new s → WasVisited old s ⊎ ((s ≡ visited) ⊎ (may s ≡ false))
-  pub more : old.next < new.next
+  pub later : old.next ≤ number visited
+  pub next : new.next ≡ number visited + 1
   pub within : new.next ≤ STOPS
   pub had : new.had_turn ≡ true
   pub turns : new.turns ≡ min (old.turns + 1) (2 ^ 32 - 1)

@@ -1,5 +1,6 @@
 //! Laws of every list of turns, and the numbers of the loop. No program calls them.
 ghost use Rattle.nutloop.specs.Fairness.{EverybodyHasATurn};
+ghost use Rattle.nutloop.specs.InTime.{WhoeverAsksLearnsInTime};
 ghost use Rattle.nutloop.specs.Moved.{EveryByteIsMovedOnce};
 ghost use Rattle.nutloop.specs.Numbers.{Numbers};
 ghost use Rattle.nutloop.specs.SocketToSocket.{WhatASocketGaveIsAnswered, ADriverIsServedByItsSocket};
@@ -7,7 +8,7 @@ ghost use Rattle.nutloop.specs.SocketToSocket.{WhatASocketGaveIsAnswered, ADrive
 use crate::Sockets;
 use nutcore::Record;
 use nutcore::laws::{
-    each_answer_is_timely, every_server_is_sound, what_a_driver_reported_is_executed,
+    a_line_is_answered_at_once, each_answer_is_timely, every_server_is_sound, what_a_driver_reported_is_executed,
     what_a_driver_was_sent_and_is_owed, what_never_goes_back, what_was_asked_is_executed_or_held,
     what_was_sent_and_is_owed_is_the_answers,
 };
@@ -46,6 +47,18 @@ pub fn a_driver_is_served_by_its_socket<S: Sockets, R: Record>()
 pub fn everybody_has_a_turn<S: Sockets, R: Record>()
     ensures { EverybodyHasATurn S.told R.holds }
 {}
+
+/// A driver's report and a client's request that wait at a look, each up to its turn, are executed
+/// before the next look, the report first, and the client is sent the reply, if it takes what it is
+/// offered. So are a client's order and the request of another one, if the first has the lower
+/// place. A stop that is ready at so many looks has as many turns.
+pub fn whoever_asks_learns_in_time<S: Sockets, R: Record>()
+    ensures { WhoeverAsksLearnsInTime S.told R.holds }
+{
+    a_line_is_answered_at_once();
+    what_was_sent_and_is_owed_is_the_answers();
+    every_server_is_sound();
+}
 
 /// The bytes of a driver's read and of an id, the turns of a pass, between two looks and of
 /// `serve`, the closing connections and their ticks.
