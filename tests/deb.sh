@@ -48,6 +48,9 @@ done
 "$usr/sbin/voqarchay-upsd" replay crates/upsd/data/first.txt | cmp -s - crates/upsd/stdout && ok
 [[ -f $root$(sed -n 's/^ExecStart=\([^ ]*\) .*/\1/p' "$usr/lib/systemd/system/upsd.service") ]] && ok
 [[ -f $root$(sed -n 's/^ExecStart=\([^ ]*\) .*/\1/p' "$usr/lib/systemd/system/demodriver@.service") ]] && ok
+# What its units and examples name below /usr is there.
+[[ -z $(grep -rohE '/usr/[a-z0-9/_.-]+' "$usr/lib/systemd" "$usr/share/doc/voqarchay/examples" | sort -u |
+    while read -r path; do [[ -e $root$path ]] || echo "$path"; done) ]] && ok
 # The completion is of the package's names, and leaves NUT's programs alone.
 [[ $(bash -c 'source "$1/voqarchay-upsc" && complete -p' _ "$usr/share/bash-completion/completions" |
     grep -c '_voqarchay voqarchay-ups') == 4 ]] && ok
@@ -107,5 +110,5 @@ dpkg_there -r voqarchay >"$folder/said" 2>&1 || cat "$folder/said"
 dpkg_there --purge voqarchay >"$folder/said" 2>&1 || cat "$folder/said"
 [[ -z $(left) ]] && ok
 [[ $(mine) == "$before" ]] && ok
-echo "deb: $checks of 25 checks"
-[[ $checks == 25 ]]
+echo "deb: $checks of 26 checks"
+[[ $checks == 26 ]]

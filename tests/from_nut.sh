@@ -67,17 +67,30 @@ is_refused "^from_nut: refused: LISTEN: 0.0.0.0:nut isn't an IP address and a po
 echo 'LISTEN 192.0.2.1' >etc/upsd.conf
 DESTDIR='' is_refused '^from_nut: refused: LISTEN: upsd: 192.0.2.1:0: Cannot assign requested address'
 rm etc/upsd.conf
-echo 'FORCESSL 1' >etc/upsmon.conf
-is_refused "^from_nut: refused: etc/upsmon.conf: upsmon doesn't connect to a server without TLS$"
+for line in 'FORCESSL 1' 'CERTVERIFY "1"'; do
+    printf 'FORCESSL 0\n%s\n' "$line" >etc/upsmon.conf
+    is_refused "^from_nut: refused: etc/upsmon.conf: upsmon doesn't connect to a server without TLS$"
+    grep -qxF "etc/upsmon.conf:2:$line" said && ok
+done
+echo 'FORCESSL 0' >etc/upsmon.conf
+from_nut -n all etc >said 2>&1 && ok
 rm etc/upsmon.conf
-printf 'sshd: ALL\nupsd: 192.0.2.7, 10.1. [2001:db8::]/32 .example\n' >hosts.allow
+cat >hosts.allow <<'RULES'
+sshd: ALL
+upsd: 192.0.2.7, 10.1. \
+    [2001:db8::]/32 .example
+upsd: ALL EXCEPT 192.0.2.66
+ALL EXCEPT upsd: 192.0.2.8
+RULES
 echo 'ALL: ALL' >hosts.deny
 is_refused '^from_nut: refused: more machines would reach this server: -o accepts that$'
 diff - <(grep -A 9 'The same in nftables:' said | sed -n 's/^    //p') <<'RULES' && ok
 tcp dport 3493 ip saddr 192.0.2.7 accept
 tcp dport 3493 ip saddr 10.1.0.0/16 accept
 tcp dport 3493 ip6 saddr 2001:db8::/32 accept
-# by hand, of etc/../hosts.allow:2: .example
+# by hand, of etc/../hosts.allow:3: .example
+# by hand, of etc/../hosts.allow:4: upsd: ALL EXCEPT 192.0.2.66
+# by hand, of etc/../hosts.allow:5: ALL EXCEPT upsd: 192.0.2.8
 tcp dport 3493 drop
 RULES
 from_nut -o -n all etc >said 2>&1 && ok
@@ -98,6 +111,6 @@ unset DESTDIR
 "$top/crates/upsd/out/upsd" replay --ups ups.conf.written --users upsd.users.written /dev/null >said
 [[ $(cat said) == $'driver bay-2 sent 0 bytes\ndriver idle sent 0 bytes\ndriver su sent 0 bytes' ]] && ok
 if from_nut users 2>usage; then exit 1; fi
-grep -q '^usage: from_nut' usage && [[ $(from_nut --help) == "$(cat usage)" ]] && ok
-echo "from_nut: $checks of 29 checks"
-[[ $checks == 29 ]]
+grep -q '^usage: from_nut' usage && [[ $(from_nut --help) == "$(cat usage)" && $(from_nut -h) == "$(cat usage)" ]] && ok
+echo "from_nut: $checks of 33 checks"
+[[ $checks == 33 ]]

@@ -72,6 +72,14 @@ missing() {
 }
 [[ -z $(missing) ]] && ! grep -rlw README "$usr/share" && ok
 
+# In the folder of the examples OPERATING's commands put each where it says, and the help's example judges the files.
+cd "$usr/share/doc/voqarchay/examples"
+sed -n 's/^ *\(install -.*\)/\1/p' ../OPERATING.md | sed "s|/etc|$folder/etc|g" | bash -e
+[[ $(find "$folder/etc" -type f -printf '%f\n' | sort | paste -sd ' ') == "cmdvartab from_ups_conf.conf record.conf ups_conf_changed.conf upsd-metrics.service \
+upsd-metrics.timer upsd.users upses.conf" ]] && ok
+[[ $(PATH=$usr/sbin:$PATH bash -c "$("$usr/sbin/upsd" replay --help | sed -n 's/^Example: //p')" 2>/dev/null) == 'driver su sent 0 bytes' ]] && ok
+cd "$top"
+
 in_root uninstall
 [[ -z $(files) ]] && ok
 
@@ -83,5 +91,5 @@ grep -q "usr/bin/upsc isn't of this package" "$folder/said" && ok
 [[ $(files) == "$usr/bin/upsc" ]] && ok
 in_root uninstall
 [[ $(cat "$usr/bin/upsc") == NUT ]] && ok
-echo "install: $checks of 24 checks"
-[[ $checks == 24 ]]
+echo "install: $checks of 26 checks"
+[[ $checks == 26 ]]

@@ -224,7 +224,7 @@ def print_times():
 def machine():
     cpu = re.search(r"model name\s*: (.*)", pathlib.Path("/proc/cpuinfo").read_text())[1]
     nut = subprocess.run(["/lib/nut/upsd", "-V"], capture_output=True, text=True).stdout.split("\n")[0].split()[-1]
-    commit = subprocess.run(["git", "rev-parse", "--short", "HEAD"], cwd=TOP, capture_output=True, text=True).stdout.strip()
+    commit = subprocess.run(["git", "log", "-1", "--format=%h (%cs)"], cwd=TOP, capture_output=True, text=True).stdout.strip()
     return f"{os.cpu_count()} processors, {cpu}; Linux {os.uname().release}; NUT's upsd {nut}; upsd of {commit}"
 
 

@@ -62,7 +62,8 @@ pub fn upsc_prints_the_upses()
     each_is_listed_once();
 }
 
-/// `upsrw UPS` prints exactly one line `name=value` for each variable that clients may set.
+/// `upsrw UPS` prints exactly one line `name=value` for each variable of a usable UPS that clients
+/// may set.
 #[tactic(auto, using(crate::proofs::Printing::prints_settings))]
 pub fn upsrw_prints_the_variables()
     ensures { UpsrwPrintsTheVariables }
@@ -70,7 +71,7 @@ pub fn upsrw_prints_the_variables()
     each_is_listed_once();
 }
 
-/// `upscmd -l UPS` prints exactly one line for each command of the UPS.
+/// `upscmd -l UPS` prints exactly one line for each command of a usable UPS.
 #[tactic(auto, using(crate::proofs::Printing::prints_commands))]
 pub fn upscmd_prints_the_commands()
     ensures { UpscmdPrintsTheCommands }
@@ -104,8 +105,8 @@ pub fn a_refusal_ends_the_job()
     ensures { ARefusalEndsTheJob }
 {}
 
-/// `upsrw -s` and `upscmd` print `OK` exactly if the server gave the order to the driver of that
-/// UPS, once, and nothing to any other driver.
+/// Where the whole reply comes, `upsrw -s` and `upscmd` print `OK` exactly if the server gave the
+/// order to the driver of that UPS, once, and nothing to any other driver.
 pub fn an_order_that_is_printed_is_given()
     ensures { AnOrderThatIsPrintedIsGiven }
 {

@@ -108,7 +108,7 @@ fn replay_command<'a>(alloc: Global) -> Result<Command<'a>, AllocError>
 {
     let replay = Command::new(alloc, "replay")
         .about("Replays a script of events and prints what the server sent")
-        .after_help("Example: upsd replay data/first.txt");
+        .after_help("Example: upsd replay --ups upses.conf --users upsd.users /dev/null");
     with_words(alloc, replay, &REPLAY_WORDS)
 }
 
