@@ -187,6 +187,8 @@ def a_masked_record_replays():
                          (["users", bad], f"{bad}:1: no line of a record")]:  # fmt: skip
         ended = subprocess.run([mask[0], *words], cwd=FOLDER, check=False, capture_output=True, text=True)
         assert (ended.returncode, ended.stderr.splitlines()[-1]) == (1, f"mask: {fault}"), ended
+    ended = subprocess.run([mask[0], "users"], check=False, capture_output=True, text=True)
+    assert (ended.returncode, ended.stderr) == (2, "usage: mask USERS RECORD [VALUE..]\n"), ended
 
 
 BENCH.run(globals())
