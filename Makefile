@@ -12,7 +12,7 @@ BUILT = $(if $(filter arm64,$(ARCHITECTURE)),.arm64)
 PROGRAMS = upsd upsc upsrw upscmd
 CLIENTS = upsc upsrw upscmd
 ROOT = $(DESTDIR)$(PREFIX)
-UNITS = $(addprefix lib/systemd/system/, upsd.service demodriver@.service nut-server.service.d/unless_upsd.conf)
+UNITS = $(addprefix lib/systemd/system/, voqarchay.service demodriver@.service nut-server.service.d/unless_upsd.conf)
 DRIVER = lib/voqarchay/demodriver
 
 # What is installed below ROOT, and the list of it that an installation leaves, so that no file of anybody else's is taken

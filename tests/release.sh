@@ -18,7 +18,7 @@ cp tools/install "$release"
 "$release/install" "$prefix" >"$folder/said"
 [[ $(files "$prefix") == "$(files "$release")" ]] && ok
 cmp -s "$prefix/bin/upsc" crates/upsc/out/upsc && [[ -x $prefix/bin/upsc ]] && ok
-grep -q "^ExecStart=$prefix/sbin/upsd serve" "$prefix/lib/systemd/system/upsd.service" && ok
+grep -q "^ExecStart=$prefix/sbin/upsd serve" "$prefix/lib/systemd/system/voqarchay.service" && ok
 ! grep -r /usr/local "$prefix/lib/systemd" "$prefix/share/doc/voqarchay/examples" && ok
 [[ -z $(type -P systemd-path) ]] || grep -q "systemd doesn't read $prefix/lib/systemd/system" "$folder/said" && ok
 # An older release had a file more.
