@@ -52,6 +52,7 @@ install:
 	for file in $(FILES); do \
 	    test ! -e $(ROOT)/$$file || grep -qsxF $$file $(LIST) || { echo "$(ROOT)/$$file isn't of this package: take it away, or take another PREFIX"; exit 1; }; \
 	done
+	test ! -e $(LIST) || while read -r file; do rm -f "$(ROOT)/$$file"; done <$(LIST)
 	install -d $(sort $(dir $(addprefix $(ROOT)/, $(FILES))))
 	printf '%s\n' $(FILES) >$(LIST)
 	install crates/upsd/out/upsd$(BUILT) $(ROOT)/sbin/upsd

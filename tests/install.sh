@@ -33,6 +33,9 @@ files >"$folder/first"
 grep -q 'ExecStart=/usr/sbin/upsd serve' "$unit" && ok
 "$usr/bin/upsc" --help >"$folder/help" && cmp -s "$folder/help" crates/upsc/stdout && ok
 [[ -f $folder/root$(sed -n 's/^ExecStart=\([^ ]*\) .*/\1/p' "$usr/lib/systemd/system/demodriver@.service") ]] && ok
+# An older installation had a file more.
+touch "$usr/share/voqarchay/old"
+echo share/voqarchay/old >>"$usr/share/voqarchay/installed"
 in_root install
 files | cmp -s - "$folder/first" && ok
 
