@@ -100,7 +100,7 @@ older
 script postinst configure OB && is_taken_over && ! ran '^stop\|^restart' && grep -q 'until systemctl stop upsd, systemctl start voqarchay$' "$folder/said" && ok
 if script prerm remove 'FSD OL'; then exit 1; fi
 ! ran disable && grep -q 'the UPS su is FSD: not removed' "$folder/said" && ok
-script prerm remove OL && ran '^disable --now voqarchay.service$' && grep -q 'nobody serves' "$folder/said" && ! ran '^start' && ok
+script prerm remove OL && ran '^disable --now voqarchay.service$' && ran '^stop demodriver@\*.service$' && grep -q 'nobody serves' "$folder/said" && ! ran '^start' && ok
 touch "$folder/nut"
 script prerm remove OL && ran '^start nut-server.service$' && grep -q "NUT's server serves" "$folder/said" && ok
 if [[ -n $(type -P lintian) ]]; then
@@ -111,11 +111,12 @@ else
 fi
 
 # What the administrator or from_nut wrote stays until a purge.
-install -d "$root"/etc/{voqarchay,systemd/system/voqarchay.service.d}
-touch "$root"/etc/{voqarchay/upsd.users,voqarchay/upsd.users~,systemd/system/voqarchay.service.d/{from_nut,override}.conf}
+install -d "$root"/etc/{voqarchay,systemd/system/{voqarchay,nut-driver-enumerator}.service.d}
+touch "$root"/etc/{voqarchay/upsd.users,voqarchay/upsd.users~,systemd/system/voqarchay.service.d/{from_nut,override}.conf} \
+    "$root"/etc/systemd/system/{nut-driver-enumerator.service.d/ups_conf_changed.conf,upsd-metrics.service,upsd-metrics.timer}
 left() { find "$root" -path "$root/var" -prune -o -not -type d -print; }
 dpkg_there -r voqarchay >"$folder/said" 2>&1 || cat "$folder/said"
-[[ $(left | wc -l) == 4 ]] && ok
+[[ $(left | wc -l) == 7 ]] && ok
 dpkg_there --purge voqarchay >"$folder/said" 2>&1 || cat "$folder/said"
 [[ -z $(left) ]] && ok
 [[ $(mine) == "$before" ]] && ok
