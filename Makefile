@@ -72,7 +72,7 @@ install:
 uninstall:
 	test ! -e $(LIST) || while read -r file; do rm -f "$(ROOT)/$$file"; done <$(LIST)
 	rm -f $(LIST)
-	rmdir $(ROOT)/$(dir $(DRIVER)) $(ROOT)/$(MINE) $(ROOT)/$(DOC)/examples $(ROOT)/$(DOC) 2>/dev/null || true
+	rmdir $(ROOT)/$(dir $(DRIVER)) $(ROOT)/lib/systemd/system/nut-server.service.d $(ROOT)/$(MINE) $(ROOT)/$(DOC)/examples $(ROOT)/$(DOC) 2>/dev/null || true
 
 # Frees what a build leaves but its programs: 7 GB. The next build proves all again.
 clean:
