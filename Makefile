@@ -12,7 +12,7 @@ BUILT = $(if $(filter arm64,$(ARCHITECTURE)),.arm64)
 PROGRAMS = upsd upsc upsrw upscmd
 CLIENTS = upsc upsrw upscmd
 ROOT = $(DESTDIR)$(PREFIX)
-UNITS = $(addprefix lib/systemd/system/, upsd.service demodriver@.service nut-server.service.d/unless_upsd.conf)
+UNITS = $(addprefix lib/systemd/system/, voqarchay.service demodriver@.service nut-server.service.d/unless_upsd.conf)
 DRIVER = lib/voqarchay/demodriver
 
 # What is installed below ROOT, and the list of it that an installation leaves, so that no file of anybody else's is taken
@@ -52,6 +52,7 @@ install:
 	for file in $(FILES); do \
 	    test ! -e $(ROOT)/$$file || grep -qsxF $$file $(LIST) || { echo "$(ROOT)/$$file isn't of this package: take it away, or take another PREFIX"; exit 1; }; \
 	done
+	test ! -e $(LIST) || while read -r file; do rm -f "$(ROOT)/$$file"; done <$(LIST)
 	install -d $(sort $(dir $(addprefix $(ROOT)/, $(FILES))))
 	printf '%s\n' $(FILES) >$(LIST)
 	install crates/upsd/out/upsd$(BUILT) $(ROOT)/sbin/upsd
@@ -71,7 +72,7 @@ install:
 uninstall:
 	test ! -e $(LIST) || while read -r file; do rm -f "$(ROOT)/$$file"; done <$(LIST)
 	rm -f $(LIST)
-	rmdir $(ROOT)/$(dir $(DRIVER)) $(ROOT)/$(MINE) $(ROOT)/$(DOC)/examples $(ROOT)/$(DOC) 2>/dev/null || true
+	rmdir $(ROOT)/$(dir $(DRIVER)) $(ROOT)/lib/systemd/system/nut-server.service.d $(ROOT)/$(MINE) $(ROOT)/$(DOC)/examples $(ROOT)/$(DOC) 2>/dev/null || true
 
 # Frees what a build leaves but its programs: 7 GB. The next build proves all again.
 clean:

@@ -36,7 +36,7 @@ dpkg-deb -c "$package" >"$folder/list"
 ! grep -vE ' root/root ' "$folder/list" && ok
 # Below folders that all packages share, each file goes by a name of its own.
 sed -E 's/.* \.(\/[^ ]*)( -> .*)?$/\1/' "$folder/list" | grep -v '/$' >"$folder/paths"
-! grep -vE '^/usr/(lib|share|share/doc)/voqarchay/|/voqarchay-[^/]*$|^/usr/lib/systemd/system/((upsd|demodriver@).service|nut-server.service.d/unless_upsd.conf)$' "$folder/paths" && ok
+! grep -vE '^/usr/(lib|share|share/doc)/voqarchay/|/voqarchay-[^/]*$|^/usr/lib/systemd/system/((voqarchay|demodriver@).service|nut-server.service.d/unless_upsd.conf)$' "$folder/paths" && ok
 
 install -d "$root"/var/lib/dpkg/{info,updates,triggers}
 touch "$root"/var/lib/dpkg/{status,available}
@@ -46,7 +46,7 @@ for program in upsc upsrw upscmd; do
     "$usr/bin/voqarchay-$program" --help | cmp -s - "crates/$program/stdout" && ok
 done
 "$usr/sbin/voqarchay-upsd" replay crates/upsd/data/first.txt | cmp -s - crates/upsd/stdout && ok
-[[ -f $root$(sed -n 's/^ExecStart=\([^ ]*\) .*/\1/p' "$usr/lib/systemd/system/upsd.service") ]] && ok
+[[ -f $root$(sed -n 's/^ExecStart=\([^ ]*\) .*/\1/p' "$usr/lib/systemd/system/voqarchay.service") ]] && ok
 [[ -f $root$(sed -n 's/^ExecStart=\([^ ]*\) .*/\1/p' "$usr/lib/systemd/system/demodriver@.service") ]] && ok
 # What its units and examples name below /usr is there.
 [[ -z $(grep -rohE '/usr/[a-z0-9/_.-]+' "$usr/lib/systemd" "$usr/share/doc/voqarchay/examples" | sort -u |
@@ -83,15 +83,27 @@ chmod +x "$folder"/bin/*
 script() {
     echo "$3" >"$folder/status"
     : >"$folder/ran"
-    sed -e "s|/usr/lib/voqarchay/upsc|upsc|" -e 's|/run/systemd/system|/|' "$folder/control/$1" |
+    sed -e "s|/usr/lib/voqarchay/upsc|upsc|" -e 's|/run/systemd/system|/|' -e "s|/etc/systemd/system|$folder/system|" "$folder/control/$1" |
         FOLDER=$folder PATH=$folder/bin:$PATH sh -s "$2" >"$folder/said" 2>&1
 }
 ran() { grep -q "$1" "$folder/ran"; }
-script postinst configure 'OB DISCHRG' && ! ran try-restart && grep -q 'the UPS su is OB: not restarted' "$folder/said" && ok
-script postinst configure 'OL CHRG' && ran '^try-restart upsd.service$' && ran '^groupadd --system nut$' && [[ ! -s $folder/said ]] && ok
+script postinst configure 'OB DISCHRG' && ! ran '^restart' && grep -q 'the UPS su is OB: not restarted' "$folder/said" && ok
+script postinst configure 'OL CHRG' && ran '^restart voqarchay.service$' && ran '^groupadd --system nut$' && [[ ! -s $folder/said ]] && ok
+# The unit of a package before 1.0.0 is enabled, and has settings.
+older() {
+    rm -rf "$folder/system"
+    install -d "$folder"/system/{multi-user.target.wants,upsd.service.d}
+    ln -s gone "$folder/system/multi-user.target.wants/upsd.service"
+    touch "$folder/system/upsd.service.d/from_nut.conf"
+}
+is_taken_over() { ran '^enable voqarchay.service$' && [[ $(cd "$folder/system" && find . -not -type d) == ./voqarchay.service.d/from_nut.conf ]]; }
+older
+script postinst configure OL && is_taken_over && ran '^stop upsd.service$' && ran '^restart voqarchay.service$' && ok
+older
+script postinst configure OB && is_taken_over && ! ran '^stop\|^restart' && grep -q 'until systemctl stop upsd, systemctl start voqarchay$' "$folder/said" && ok
 if script prerm remove 'FSD OL'; then exit 1; fi
 ! ran disable && grep -q 'the UPS su is FSD: not removed' "$folder/said" && ok
-script prerm remove OL && ran '^disable --now upsd.service$' && grep -q 'nobody serves' "$folder/said" && ! ran '^start' && ok
+script prerm remove OL && ran '^disable --now voqarchay.service$' && ran '^stop demodriver@\*.service$' && grep -q 'nobody serves' "$folder/said" && ! ran '^start' && ok
 touch "$folder/nut"
 script prerm remove OL && ran '^start nut-server.service$' && grep -q "NUT's server serves" "$folder/said" && ok
 if [[ -n $(type -P lintian) ]]; then
@@ -102,13 +114,14 @@ else
 fi
 
 # What the administrator or from_nut wrote stays until a purge.
-install -d "$root"/etc/{voqarchay,systemd/system/upsd.service.d}
-touch "$root"/etc/{voqarchay/upsd.users,voqarchay/upsd.users~,systemd/system/upsd.service.d/from_nut.conf}
+install -d "$root"/etc/{voqarchay,systemd/system/{voqarchay,nut-driver-enumerator}.service.d}
+touch "$root"/etc/{voqarchay/upsd.users,voqarchay/upsd.users~,systemd/system/voqarchay.service.d/{from_nut,override}.conf} \
+    "$root"/etc/systemd/system/{nut-driver-enumerator.service.d/ups_conf_changed.conf,upsd-metrics.service,upsd-metrics.timer}
 left() { find "$root" -path "$root/var" -prune -o -not -type d -print; }
 dpkg_there -r voqarchay >"$folder/said" 2>&1 || cat "$folder/said"
-[[ $(left | wc -l) == 3 ]] && ok
+[[ $(left | wc -l) == 7 ]] && ok
 dpkg_there --purge voqarchay >"$folder/said" 2>&1 || cat "$folder/said"
 [[ -z $(left) ]] && ok
 [[ $(mine) == "$before" ]] && ok
-echo "deb: $checks of 26 checks"
-[[ $checks == 26 ]]
+echo "deb: $checks of 28 checks"
+[[ $checks == 28 ]]

@@ -51,7 +51,7 @@ echo 'LISTEN ups.example' >refused
 # The whole migration, below another root: first what it would do, then what keeps it from doing it, then twice.
 export DESTDIR=$folder/root
 from_nut -o -n all . >said 2>&1
-[[ ! -e root ]] && ! grep -q s3 said && grep -q '^systemctl restart upsd$' said && ok
+[[ ! -e root ]] && ! grep -q s3 said && grep -q '^systemctl restart voqarchay$' said && ok
 mkdir etc tmp
 cp -r ups.conf upsd.users etc
 printf '#!/bin/sh\necho masked\nexit 1\n' >bin/systemctl
@@ -101,9 +101,9 @@ for ((time = 0; time < 2; time++)); do
     (umask 022 && from_nut -o all . >said 2>&1)
 done
 [[ $(cat root/etc/voqarchay/upses.conf~) == first ]] && ok
-grep -q '^    systemctl disable --now upsd && systemctl enable --now nut-server$' said && ok
+grep -q '^    systemctl disable --now voqarchay && systemctl enable --now nut-server$' said && ok
 cmp root/etc/voqarchay/upsd.users upsd.users.wanted && cmp root/etc/voqarchay/upses.conf ups.conf.wanted &&
-    cmp root/etc/systemd/system/upsd.service.d/from_nut.conf upsd.conf.wanted && ok
+    cmp root/etc/systemd/system/voqarchay.service.d/from_nut.conf upsd.conf.wanted && ok
 [[ $(cd root/etc/voqarchay && stat -c '%n %a' upsd.users upsd.users~ upses.conf) == $'upsd.users 600\nupsd.users~ 600\nupses.conf 644' ]] &&
     ok
 unset DESTDIR

@@ -14,7 +14,7 @@ checks=0
 ok() { checks=$((checks + 1)); }
 in_root() { make -s "$1" DESTDIR="$folder/root" PREFIX=/usr; }
 files() { find "$folder/root" -type f | sort; }
-usr=$folder/root/usr unit=$folder/root/usr/lib/systemd/system/upsd.service
+usr=$folder/root/usr unit=$folder/root/usr/lib/systemd/system/voqarchay.service
 
 # Without the kit `make` says where to look.
 [[ $(PATH='' "$(python3 -c 'import sys; print(sys.executable)')" tools/build.py upsd 2>&1) == "rt isn't on the PATH: README.md, The toolchain" ]] && ok
@@ -33,6 +33,9 @@ files >"$folder/first"
 grep -q 'ExecStart=/usr/sbin/upsd serve' "$unit" && ok
 "$usr/bin/upsc" --help >"$folder/help" && cmp -s "$folder/help" crates/upsc/stdout && ok
 [[ -f $folder/root$(sed -n 's/^ExecStart=\([^ ]*\) .*/\1/p' "$usr/lib/systemd/system/demodriver@.service") ]] && ok
+# An older installation had a file more.
+touch "$usr/share/voqarchay/old"
+echo share/voqarchay/old >>"$usr/share/voqarchay/installed"
 in_root install
 files | cmp -s - "$folder/first" && ok
 

@@ -18,9 +18,9 @@ cp tools/install "$release"
 "$release/install" "$prefix" >"$folder/said"
 [[ $(files "$prefix") == "$(files "$release")" ]] && ok
 cmp -s "$prefix/bin/upsc" crates/upsc/out/upsc && [[ -x $prefix/bin/upsc ]] && ok
-grep -q "^ExecStart=$prefix/sbin/upsd serve" "$prefix/lib/systemd/system/upsd.service" && ok
+grep -q "^ExecStart=$prefix/sbin/upsd serve" "$prefix/lib/systemd/system/voqarchay.service" && ok
 ! grep -r /usr/local "$prefix/lib/systemd" "$prefix/share/doc/voqarchay/examples" && ok
-[[ -z $(type -P systemd-path) ]] || grep -q "systemd doesn't read $prefix/lib/systemd/system" "$folder/said" && ok
+[[ -z $(type -P systemd-path) ]] || grep -q "systemd doesn't read $prefix/lib/systemd/system:" "$folder/said" && ok
 # An older release had a file more.
 touch "$prefix/share/voqarchay/old"
 echo share/voqarchay/old >>"$prefix/share/voqarchay/installed"
@@ -29,7 +29,7 @@ echo share/voqarchay/old >>"$prefix/share/voqarchay/installed"
 
 echo mine >"$prefix/bin/mine"
 "$release/install" --remove "$prefix"
-[[ $(files "$prefix") == ./bin/mine && -z $(find "$prefix" -name voqarchay) ]] && ok
+[[ $(files "$prefix") == ./bin/mine && -z $(find "$prefix" -name voqarchay -o -name 'nut-server*') ]] && ok
 echo NUT >"$prefix/bin/upsc"
 if "$release/install" "$prefix" >"$folder/said" 2>&1; then exit 1; fi
 grep -q "bin/upsc isn't of this package" "$folder/said" && [[ $(files "$prefix" | wc -l) == 2 ]] && ok

@@ -74,13 +74,13 @@ fi
 
 # What the unit does before a start. The users' file is judged where it is, and named so.
 judge() {
-    sh -c "$(sed -n "s/^ExecStartPre=+.bin.sh -c '\(.*users.*\)'$/\1/p" "$top/examples/upsd.service" |
+    sh -c "$(sed -n "s/^ExecStartPre=+.bin.sh -c '\(.*users.*\)'$/\1/p" "$top/examples/voqarchay.service" |
         sed -e "s|/usr/local/sbin|$top/crates/upsd/out|" -e "s|/etc/voqarchay|$folder|")" 2>said
 }
 mv users upsd.users
 judge && echo here=1 >upsd.users && ! judge && [[ $(head -n 1 said) == "upsd: $folder/upsd.users:1: cause "* ]] && ok
 rm upsd.users
-! judge && [[ $(head -n 1 said) == "upsd: $folder/upsd.users: cannot read" ]] && grep -q '^SyslogIdentifier=upsd$' "$top/examples/upsd.service" && ok
+! judge && [[ $(head -n 1 said) == "upsd: $folder/upsd.users: cannot read" ]] && grep -q '^SyslogIdentifier=upsd$' "$top/examples/voqarchay.service" && ok
 # The pause, where systemd has counted so many tries, last saw the server in that second, and the last start failed in that one.
 mkdir bin
 printf '#!/bin/sh\ncat shown\n' >bin/systemctl
@@ -89,19 +89,20 @@ printf '#!/bin/sh\ncat "$NUT_CONFPATH/upsmon.conf"\n' >bin/unshare
 chmod +x bin/*
 pause() {
     printf 'NRestarts=%s\nActiveExitTimestampMonotonic=%s000000\nInactiveExitTimestampMonotonic=%s000001\n' "$@" >shown
-    PATH=$folder/bin:$PATH bash -c "$(sed -n "s/^ExecStartPre=+.bin.bash -c '\(.*\)'$/\1/p" "$top/examples/upsd.service" | sed 's/\$\$/$/g')"
+    PATH=$folder/bin:$PATH bash -c "$(sed -n "s/^ExecStartPre=+.bin.bash -c '\(.*\)'$/\1/p" "$top/examples/voqarchay.service" | sed 's/\$\$/$/g')"
 }
 # A crash; the ninth one; tries that fail after it; at the boot, when it never was there.
 [[ $(pause 0 100 900) == 0 && $(pause 9 100 100) == 0 ]] && ok
 [[ $(pause 13 100 102) == 0 && $(pause 19 100 116) == 8 && $(pause 90 100 500) == 30 ]] && ok
 [[ $(pause 4 0 90) == 0 && $(pause 9 0 90) == 9 ]] && ok
 # The record's drop-in has the unit's own command.
-[[ $(grep '^ExecStart=.' "$top/examples/record.conf") == "$(grep '^ExecStart=' "$top/examples/upsd.service") --record "* ]] && ok
+[[ $(grep '^ExecStart=.' "$top/examples/record.conf") == "$(grep '^ExecStart=' "$top/examples/voqarchay.service") --record "* ]] && ok
 
-# NUT's server doesn't start while the unit is enabled. No start of NUT's is one of the unit's, or ends it.
+# NUT's server doesn't start while the unit is enabled. No start of NUT's is one of the unit's, or ends it, and the unit's name is none
+# of NUT's: nut-server.service is upsd.service too, from NUT 2.8.1 on.
 [[ $(sed -n 's/^ConditionPathExists=!//p' "$top/examples/unless_upsd.conf") == \
-    "/etc/systemd/system/$(sed -n 's/^WantedBy=//p' "$top/examples/upsd.service").wants/upsd.service" ]] &&
-    ! grep -E '^(Alias|Conflicts)=' "$top/examples/upsd.service" && ok
+    "/etc/systemd/system/$(sed -n 's/^WantedBy=//p' "$top/examples/voqarchay.service").wants/voqarchay.service" ]] &&
+    ! grep -E '^(Alias|Conflicts)=' "$top/examples/voqarchay.service" && [[ ! -e $top/examples/upsd.service ]] && ok
 
 # A drill watches one UPS, and shuts nothing down.
 cat >upsmon.conf <<'CONF'
