@@ -1,7 +1,8 @@
 """Judges the wrong bodies of crates/NAME/edits.txt, which the proofs must refuse, many in one check.
 
-usage: edits.py [NAME ..]      at the top of the repository, over the libraries that `rt ci` or `make` built there
-       edits.py --beside LOG   while `rt ci` runs and its words go to LOG: a crate waits until those below it are built
+usage: edits.py [NAME ..]          at the top of the repository, over the libraries that `rt ci` or `make` built there
+       edits.py --beside LOG       while `rt ci` runs and its words go to LOG: a crate waits until those below it are built
+       edits.py --anew [NAME ..]   judges all
 
 An entry of edits.txt has lines: what is wrong; the file and, after a comma, the function as a check names it; then
 pairs "- TEXT" and "+ TEXT", each of one line, whose first stands in the file exactly once. Blank lines part entries.
@@ -9,8 +10,14 @@ pairs "- TEXT" and "+ TEXT", each of one line, whose first stands in the file ex
 Entries of different functions make a round: one check of the edited functions and what they call. Refused is an
 entry only where a goal of its own function stays open; that a callee isn't proved counts for nothing, since a caller
 is checked against its callee's contract. A round counts only where it reached the prover and no function that nobody
-edited has an open goal; else it is halved. The last line says how many were refused."""
+edited has an open goal; else it is halved. The last line says how many were refused.
+
+What was refused is kept on this machine beside what `rt ci` keeps, by a sum of the entry, of this file, of the kit and
+of all sources that the check reads. So a later run over the same sources judges the others."""
 import concurrent.futures as futures
+import contextlib
+import hashlib
+import json
 import os
 import re
 import shutil
@@ -23,6 +30,7 @@ sys.path.insert(0, os.path.join(os.path.dirname(os.path.abspath(__file__)), "../
 from kit import rt, rtlib
 
 LIST = "edits.txt"
+KEPT = f"{rt.STORE}-edits"
 
 
 class Edit:
@@ -118,17 +126,39 @@ def rounds_of(edits):
     return rounds
 
 
-def judge(crate, edits):
+def kept_file(crate):
+    """The file of what was refused over just these sources of a crate."""
+    with open(__file__, "rb") as own:
+        return f"{KEPT}/{crate.name}-{hashlib.sha256(own.read() + crate.stamp().encode()).hexdigest()}"
+
+
+def judge(crate, edits, anew=False):
     """Judges a crate's edits. Returns what is said of each that is refused, and the names of those that aren't."""
     if not all(is_there(it) for it in crate.below()):
         return [], [f"{crate.name} (a library below it isn't built, or has changed since)"]
-    judged = {}
+    file, before = kept_file(crate), {}
+    if not anew:
+        with contextlib.suppress(OSError, ValueError), open(file, encoding="utf-8") as it:
+            before = json.load(it)
+    key = lambda edit: f"{edit.function}\n{edit.text}"
+    judged = {it: before[key(it)] for it in edits if not it.why and key(it) in before}
     # What a round proves serves the next one.
     with tempfile.TemporaryDirectory(prefix="edits-kept-") as kept:
-        for some in rounds_of(edits):
+        for some in rounds_of([it for it in edits if it not in judged]):
             judged |= in_round(crate, [it for it in some if it.function and not it.why], kept)
+            if not anew:
+                keep(file, before | {key(it): why for it, why in judged.items()})
     said = [f"{it.name}: refused: {why[:160]}" for it, why in judged.items()]
     return said, [it.name + f" ({it.why})" * bool(it.why) for it in edits if it not in judged]
+
+
+def keep(file, refused):
+    """Keeps what was refused, where that may be written."""
+    with contextlib.suppress(OSError):
+        os.makedirs(KEPT, 0o700, exist_ok=True)
+        with tempfile.NamedTemporaryFile("w", dir=KEPT, delete=False, encoding="utf-8") as it:
+            json.dump(refused, it)
+        os.replace(it.name, file)
 
 
 def is_there(crate):
@@ -144,7 +174,7 @@ def is_ready(crate, said):
 
 def main(words):
     rtlib.guarded()
-    log, names = (words[1], []) if words[:1] == ["--beside"] else (None, words)
+    log, names = (words[1], []) if words[:1] == ["--beside"] else (None, [it for it in words if it != "--anew"])
     left = [it for it in rtlib.crates_below(os.getcwd()) if edits_of(it) and (not names or it.name in names)]
     running, refused, failed = set(), 0, []
     with futures.ThreadPoolExecutor(rt.processors()) as pool:
@@ -154,7 +184,7 @@ def main(words):
                 left.remove(crate)
                 edits = edits_of(crate)
                 print(f"edits: {crate.name}: {len(edits)} edits in {len(rounds_of(edits))} rounds", flush=True)
-                running.add(pool.submit(judge, crate, edits))
+                running.add(pool.submit(judge, crate, edits, "--anew" in words))
             done, running = futures.wait(running, 1, futures.FIRST_COMPLETED)
             for said, stayed in (it.result() for it in done):
                 for line in said:

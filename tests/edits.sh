@@ -25,7 +25,7 @@ function_of() {
 edit() { printf '%s\nsrc/lib.rt%s\n- %s\n+ %s\n\n' "$2" "${3:+, $3}" "$4" "$5" >>"$folder/crates/$1/edits.txt"; }
 
 judge() {
-    (cd "$folder" && python3 "$top/tests/edits.py" "$@") >"$folder/said" 2>&1 || true
+    (cd "$folder" && python3 "$top/tests/edits.py" --anew "$@") >"$folder/said" 2>&1 || true
     rm "$folder"/crates/*/edits.txt
 }
 

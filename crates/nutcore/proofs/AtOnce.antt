@@ -60,6 +60,6 @@ line_answered_at_once old new c n line x found idle none fits step =
     let there : session c s ≡ Some y = session_changed (joined piece) (λ z. refl) c old ∙ ap (option_map (joined piece)) found ∙ ap (λ (z : SessionState). Some z) (all_joins line x idle fits) in
     let next : next_line_for s c ≡ Some line = rw there (is_next_line line x y idle none refl) in
     let after : owed c (after_line s c) ≡ reply s c line =
-        ap owed_of (found_after_line s c line y there next) ∙ (keeps (change_at s c line) (answered line (reply s c line) y)).owed ∙ ap (λ (o : List ℕ). o ++ reply s c line) idle.owed in
+    ap owed_of (found_after_line s c line y there next) ∙ (keeps (change_at s c line) (answered line (reply s c line) y)).owed ∙ ap (λ (o : List ℕ). o ++ reply s c line) idle.owed in
     let same : reply s c line ≡ reply old c line = sym (core_alike s c line).reply ∙ ap (λ (z : ServerState). reply z c line) (core_input old c piece) ∙ (core_alike old c line).reply in
     ap (owed c) (step.leaves ∙ pumped_once s c line y there refl none next) ∙ after ∙ same

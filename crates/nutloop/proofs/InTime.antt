@@ -127,8 +127,8 @@ module _ {S R : Type 0} (told : S → Told) (holds : R → Recorded) where
           others = λ other b above is. still_ready other t ts b (λ its. omega (arith, above, ap number its, ap number same)) is;
         }
         | inr yet ↦ after_turn s old mid before pass (Some t) ts after new turn
-        (λ other b above is. still_ready other t ts b (not_its other t next (omega (arith, yet, above))) is)
-        (find s may mid pass ts after new go (omega (arith, at, yet)) (still_ready s t ts (may s) (not_its s t next yet) ready) over)
+            (λ other b above is. still_ready other t ts b (not_its other t next (omega (arith, yet, above))) is)
+            (find s may mid pass ts after new go (omega (arith, at, yet)) (still_ready s t ts (may s) (not_its s t next yet) ready) over)
       ]
 
   in_order : (old new : Running S R) (turns : List Turn) (looks : FromLookToLook told holds old turns new) (first second third : Stop) → number first < number second → number second < number third
@@ -237,9 +237,9 @@ module _ {S R : Type 0} (told : S → Told) (holds : R → Recorded) where
         let is_reported = is_read peer report reports.one.turn reported in
         let is_asked = is_read (Client c) (with_lf line) asks.one.turn asked in
         let step : Step asks.from.server.state (event.Feed c (with_lf line)) (Fed n) asks.to.server.state =
-            subst (λ (o : Outcome). Step asks.from.server.state (event.Feed c (with_lf line)) o asks.to.server.state) (fed_is is_asked.outcome n asks.one.turn.row.does.outcomes is_asked.is fed) is_asked.step in
+        subst (λ (o : Outcome). Step asks.from.server.state (event.Feed c (with_lf line)) o asks.to.server.state) (fed_is is_asked.outcome n asks.one.turn.row.does.outcomes is_asked.is fed) is_asked.step in
         let owes : owed c asks.to.server.state ≡ reply asks.from.server.state c line =
-            at_once asks.from.server.state asks.to.server.state c n line x found idle none (line_fits c line x asks.one.turn asked found idle) step in
+        at_once asks.from.server.state asks.to.server.state c n line x found idle none (line_fits c line x asks.one.turn asked found idle) step in
         let between = turns_between told holds reports.to asks.before asks.from asks.earlier in
         let later = turns_between told holds asks.to takes.before takes.from takes.earlier in
         let before = joined told holds old reports.from reports.to (turns_between told holds old reports.before reports.from reports.earlier) (one told holds reports.from reports.to reports.one.turn) in

@@ -8,9 +8,9 @@ ghost use Rattle.nutloop.specs.SocketToSocket.{WhatASocketGaveIsAnswered, ADrive
 use crate::Sockets;
 use nutcore::Record;
 use nutcore::laws::{
-    a_line_is_answered_at_once, each_answer_is_timely, every_server_is_sound, what_a_driver_reported_is_executed,
-    what_a_driver_was_sent_and_is_owed, what_never_goes_back, what_was_asked_is_executed_or_held,
-    what_was_sent_and_is_owed_is_the_answers,
+    a_line_is_answered_at_once, each_answer_is_timely, every_server_is_sound,
+    what_a_driver_reported_is_executed, what_a_driver_was_sent_and_is_owed, what_never_goes_back,
+    what_was_asked_is_executed_or_held, what_was_sent_and_is_owed_is_the_answers,
 };
 
 /// Over any turns of `serve` whose sockets report their calls, what each client and each driver gave
