@@ -19,11 +19,9 @@ import time
 
 import serving
 from replaying import HERE, Bench, built, ends_in_full
-from serving import READY, TWO, Driver, comes, pouring
+from serving import EMULATED, READY, TWO, Driver, comes, pouring
 
 UPSD, DEMODRIVER = built("upsd", "demodriver")
-# Under an emulator (arm64/test), memory and waits are its own.
-EMULATED = "EMULATED" in os.environ
 LONGEST = 10.0 if EMULATED else 0.5
 BENCH = Bench("serve", UPSD)
 FOLDER = BENCH.folder.name
