@@ -745,6 +745,31 @@ def a_server_that_is_asked_nothing_does_nothing():
         assert server.descriptors() == opened - 1
 
 
+def it_sleeps_until_something_is_due():
+    """Beside a driver that only answers, it wakes to ask each third of MAXAGE, 5 s, and for the answer."""
+    with served() as (server, driver, good):
+        time.sleep(1.5)
+        before, end = server.wakeups(), time.monotonic() + 10
+        while (left := end - time.monotonic()) > 0:
+            if select.select([driver.wire], [], [], left)[0]:
+                assert driver.line() == b"PING\n"
+                driver.send(b"PONG\n")
+        woken = server.wakeups() - before
+        assert 4 <= woken <= 8, f"it woke {woken} times"
+        assert good.ask(GET) == STATUS
+
+
+def nothing_due_is_slept_over():
+    """Beside nobody who wakes it: a silent driver is asked each second third of MAXAGE, and its data are stale in their second."""
+    with served(TWO, "--maxage", "6") as (server, driver, _):
+        begin = time.monotonic()
+        for number in range(1, 4):
+            assert driver.line() == b"PING\n"
+            assert abs(time.monotonic() - begin - 2 * number) < 1.2, number
+        assert comes(lambda: "upsd: su: data stale" in server.journal(), 2), server.journal()
+        assert time.monotonic() - begin < 8.2
+
+
 def more_clients_than_descriptors_end_nothing():
     with begun(file("alone.conf", "[su]\n"), files=20) as server:
         clients = [server.client() for _ in range(40)]

@@ -175,6 +175,11 @@ class Server:
             fields = stat.read().rsplit(")", 1)[1].split()
         return (int(fields[11]) + int(fields[12])) / os.sysconf("SC_CLK_TCK")
 
+    def wakeups(self):
+        """How often it has waited."""
+        with open(f"/proc/{self.process.pid}/status", encoding="utf-8") as status:
+            return int(next(line for line in status if line.startswith("voluntary")).split()[1])
+
     def descriptors(self):
         return len(os.listdir(f"/proc/{self.process.pid}/fd"))
 
@@ -238,17 +243,17 @@ def is_free(port):
 class OtherServer(Server):
     """Any server. In its words `{port}` is its port, and `{folder}` a folder with the files of ours and of NUT's."""
 
-    def __init__(self, words, folder, upses):
+    def __init__(self, words, folder, upses, max_age=3600):
         """Of each UPS the list has what its section says beside its driver, the socket dummy-ups-NAME in the folder."""
         self.port = next(port for port in PORTS if is_free(port))
         for file, text in {
                 "upses.conf": "".join(f"[{ups}]\n{more}socket = {folder}/dummy-ups-{ups}\n" for ups, more in upses.items()),
                 "ups.conf": "".join(f"[{ups}]\n{more}driver = dummy-ups\nport = x\n" for ups, more in upses.items()),
-                "upsd.conf": f"LISTEN 127.0.0.1 {self.port}\nMAXAGE 3600\nMAXCONN 128\n"}.items():  # fmt: skip
+                "upsd.conf": f"LISTEN 127.0.0.1 {self.port}\nMAXAGE {max_age}\nMAXCONN 128\n"}.items():  # fmt: skip
             with open(f"{folder}/{file}", "w", encoding="utf-8") as out:
                 out.write(text)
         self.clients, self.errors = [], tempfile.TemporaryFile()
-        words = [word.format(folder=folder, port=self.port) for word in words]
+        words = [word.format(folder=folder, port=self.port, max_age=max_age) for word in words]
         paths = {f"NUT_{path}": folder for path in ("CONFPATH", "STATEPATH", "ALTPIDPATH")}
         self.process = subprocess.Popen(words, stdout=subprocess.PIPE, stderr=self.errors, env={**os.environ, **paths})
         assert comes(self.listens, 30), self.journal()

@@ -1,9 +1,9 @@
 #!/usr/bin/env python3
 """Measures what a request costs this server and NUT's, and prints the tables of docs/COSTS.md.
 
-It takes about 20 minutes on a machine that does nothing else, and needs the built upsd and crates/netbench (`rt run` in each), NUT's
-upsd (Debian's nut-server) and valgrind. Speed is the median of rounds in which the servers take turns. Words: speed, time, instructions
-or memory, if not all are measured.
+It takes about 25 minutes on a machine that does nothing else, and needs the built upsd and crates/netbench (`rt run` in each), NUT's
+upsd (Debian's nut-server) and valgrind. Speed is the median of rounds in which the servers take turns. Words: speed, time, instructions,
+memory or idle, if not all are measured.
 """
 import contextlib
 import os
@@ -27,10 +27,11 @@ from serving import Driver, OtherServer, pouring  # noqa: E402
 UPSD, NETBENCH = f"{TOP}/crates/upsd/out/upsd", f"{TOP}/crates/netbench/out/netbench"
 ROUNDS, SEED = 3, 20261127
 SECONDS = 3  # that a row of the times takes a round
+IDLE_MINUTES, ASKS_EACH = 3, 5  # seconds, as upsmon does
 SIZES = {"small": (100, 10), "large": (4096, 256)}
 CALLGRIND = ["valgrind", "--tool=callgrind", "--callgrind-out-file=/dev/null"]
 COMMANDS = {
-    "ours": [UPSD, "serve", "--ups", "{folder}/upses.conf", "--users", "{folder}/upsd.users", "--listen", "127.0.0.1:{port}", "--maxage", "3600"],
+    "ours": [UPSD, "serve", "--ups", "{folder}/upses.conf", "--users", "{folder}/upsd.users", "--listen", "127.0.0.1:{port}", "--maxage", "{max_age}"],
     "nut": ["/lib/nut/upsd", "-F", "-u", "root"],
 }
 
@@ -42,13 +43,13 @@ def reports(count, width):
 
 
 @contextlib.contextmanager
-def served(kind, sizes, valgrind=()):
+def served(kind, sizes, valgrind=(), max_age=3600):
     """Ours or NUT's server, and its drivers, each of which has reported variables of its size."""
     with contextlib.ExitStack() as stack:
         folder = stack.enter_context(tempfile.TemporaryDirectory())
         drivers = {name: Driver(f"{folder}/dummy-ups-{name}") for name in sizes}
         open(f"{folder}/upsd.users", "w", encoding="utf-8").close()
-        server = OtherServer([*valgrind, *COMMANDS[kind]], folder, dict.fromkeys(sizes, ""))
+        server = OtherServer([*valgrind, *COMMANDS[kind]], folder, dict.fromkeys(sizes, ""), max_age)
         stack.callback(server.close)
         for name, driver in drivers.items():
             driver.accept(reports(*sizes[name])[0] + b'SETINFO ups.status "OL"\n')
@@ -212,6 +213,32 @@ def times():
     return found
 
 
+def work_of(server):
+    """How often it has waited, and how many milliseconds of a processor it took."""
+    schedstat = pathlib.Path(f"/proc/{server.process.pid}/schedstat").read_text(encoding="utf-8")
+    return server.wakeups(), int(schedstat.split()[0]) / 1e6
+
+
+def idle():
+    """A minute of each server, beside a driver that only answers PINGs and three clients that ask one after another."""
+    with contextlib.ExitStack() as stack:
+        all_of = [stack.enter_context(served(kind, {"small": SIZES["small"]}, max_age=15)) for kind in COMMANDS]
+        asking = [(server, [server.client() for _ in range(3)]) for server, _ in all_of]
+        wires = {drivers["small"].wire: drivers["small"] for _, drivers in all_of}
+        time.sleep(10)
+        before, due, asks = [work_of(server) for server, _ in all_of], time.monotonic(), 0
+        while asks < IDLE_MINUTES * 60 // ASKS_EACH * 3:
+            for wire in select.select(list(wires), [], [], max(0.0, due - time.monotonic()))[0]:
+                if wires[wire].line() == b"PING\n":
+                    wires[wire].send(b"PONG\n")
+            if time.monotonic() >= due:
+                for _, clients in asking:
+                    clients[asks % 3].ask(b"GET VAR small ups.status\n")
+                asks, due = asks + 1, due + ASKS_EACH / 3
+        after = [work_of(server) for server, _ in all_of]
+        return [[(b - a) / IDLE_MINUTES for a, b in zip(*of)] for of in zip(before, after)]
+
+
 def print_times():
     print("meanwhile | ours: half/99 of 100/worst | NUT's | 99 of 100 better by", "---|---:|---:|---:", sep="\n")
     for what, of in times().items():
@@ -257,7 +284,13 @@ def print_memory():
     print(f"60 clients that stop, while the driver changes all values between one and the next: {memory('ours', 60, changes=True):,} KiB")
 
 
+def print_idle():
+    ours, nut = idle()
+    rows = zip(("wakeups", "milliseconds of a processor"), ours, nut)
+    print_table("a minute", [(what, round(a, 1), round(b, 1)) for what, a, b in rows])
+
+
 print(f"{machine()}.\n")
-PARTS = {"speed": print_speed, "time": print_times, "instructions": print_instructions, "memory": print_memory}
+PARTS = {"speed": print_speed, "time": print_times, "instructions": print_instructions, "memory": print_memory, "idle": print_idle}
 for part in sys.argv[1:] or PARTS:
     PARTS[part]()

@@ -17,7 +17,7 @@ pub fn print_ids(rt: &HostRuntime) -> Result<()> {
     for _ in 0..ASKED {
         print!(rt; " {:?}", ids.next())?;
     }
-    ids.tick();
+    ids.tick(1);
     println!(rt; " {:?}", ids.next())?;
     Ok(())
 }

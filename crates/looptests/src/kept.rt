@@ -32,5 +32,7 @@ impl Record for Kept {
         let _ = write!(self.text, "{from:?}: {}\n", bytes.escape_ascii());
     }
 
-    fn pause(&mut self) {}
+    fn pause(&mut self) -> bool {
+        false
+    }
 }

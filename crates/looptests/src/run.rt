@@ -56,7 +56,8 @@ pub fn run(alloc: Global, rows: &[Row], failing: Option<Failing>) -> Result<Ran>
 impl Ran {
     fn turn(&mut self) -> Result<()> {
         let failures = self.sockets.failures();
-        if let Err(fault) = turn(&mut self.server, &mut self.sockets, &mut self.record) {
+        let (server, sockets, record) = (&mut self.server, &mut self.sockets, &mut self.record);
+        if let Err(fault) = turn(server, sockets, record, true) {
             self.faults.push(fault)?;
         }
         if self.sockets.failures() > failures {

@@ -103,7 +103,7 @@ impl Sockets for Scripted {
         None
     }
 
-    fn look(&mut self, _server: &Server) -> Result<Ready, Broken> {
+    fn look(&mut self, _server: &Server, _soon: bool) -> Result<Ready, Broken> {
         let Act::Ready(ready) = self.next() else {
             return Err(self.fail());
         };

@@ -50,6 +50,7 @@ mod NotStuck
 mod Listed
 mod DriverRuns
 mod FreshRuns
+mod Due
 mod TrackedRuns
 mod OrdersByRight
 mod ServerLines

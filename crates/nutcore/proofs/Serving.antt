@@ -7,7 +7,7 @@ use denote.Ref.{Bor}
 use Rattle.nutcore.specs.declared.event.Fault.TheVariants.{LineTooLong}
 use Rattle.nutcore.proofs.Common.{same_Some, Change, SessionState, ServerState, session, with_session}
 use Rattle.nutcore.proofs.Common.{with_session_changed}
-use Rattle.nutcore.specs.Session.{find, without, IdsRise, new_session}
+use Rattle.nutcore.specs.Session.{without, IdsRise}
 use Rattle.std.specs.declared.alloc.AllocError.{AllocError}
 use Rattle.nutwords.specs.declared.limits.TheConstants.{LINE_LIMIT}
 use Rattle.nutlisting.specs.Lines.{IsWholeLine}
@@ -30,7 +30,7 @@ use Rattle.nutcore.specs.Promises.{place, IsAt, PumpGives, IsShort, Replies, Rep
 use Rattle.nutcore.proofs.Found.{find_id}
 use Rattle.nutcore.proofs.Changed.{change_is, session_put}
 use Rattle.nutcore.proofs.Pumping.{after_line_is, is_next, session_after, session_after_id, line_done, no_notice, notice_there}
-use Rattle.nutcore.proofs.Places.{at_put, found_at, find_at, put_is, without_at}
+use Rattle.nutcore.proofs.Places.{at_put, found_at, put_is, without_at}
 use Rattle.nutcore.proofs.Loops.{after_lines-suc, all_lines_are}
 
 pub ok_when : {T E : Type 0} (r : Result T E) (P : Type 0) → is_err r ≡ false → OnOk r P → P

@@ -25,6 +25,7 @@ pub mod Listed
 pub mod DriverHistory
 pub mod DriverRuns
 pub mod FreshRuns
+pub mod Due
 pub mod DriverOrders
 pub mod TrackedRuns
 pub mod ByRight

@@ -18,6 +18,7 @@ ghost use Rattle.nutcore.specs.TakingSome.{WhoTakesSomeGetsEverything};
 ghost use Rattle.nutcore.specs.DriverHistory.{WhatADriverReportedIsExecuted};
 ghost use Rattle.nutcore.specs.DriverRuns.{WhatCameSinceConnectingIsExecuted, ALostDriversLinesAreABeginning, WhichLinesAreRefused, RefusedLinesAreCounted, ANewServerCountsAllRefusedLines};
 ghost use Rattle.nutcore.specs.FreshRuns.{TheMomentIsTheGreatestTick, WhateverIsAnsweredIsFresh, WhatADriverSetLastIsHeld, ASilentDriverIsAsked};
+ghost use Rattle.nutcore.specs.Due.{NothingDueIsSleptOver};
 ghost use Rattle.nutcore.specs.DriverOrders.{WhatADriverWasSentAndIsOwedIsWhatItWasGiven};
 ghost use Rattle.nutcore.specs.TrackedRuns.{WhatIsTrackedComesOfTheActs, EachRunTracksItsOrders};
 ghost use Rattle.nutcore.specs.Listed.{EachIsListedOnce, WhatIsListedIsWhatIsHeld};
@@ -232,6 +233,12 @@ pub fn whatever_is_answered_is_fresh()
 /// room: before its data are stale.
 pub fn a_silent_driver_is_asked()
     ensures { ASilentDriverIsAsked }
+{}
+
+/// A tick before the second of `Server::due` changes nothing but the moment, and notes nothing. Where
+/// it is left out, the next tick makes the same server and notes the same.
+pub fn nothing_due_is_slept_over()
+    ensures { NothingDueIsSleptOver }
 {}
 
 /// The last accepted line of a connected driver on a variable decides what the UPS holds of it.

@@ -17,8 +17,9 @@ pub trait Record {
     fn bytes(&mut self, from: Peer, bytes: &[u8])
         ensures { Continues (holds self.old) (came_from from bytes.now ∷ []) (holds self.new) };
 
-    /// The next event may be long in coming: what waits is written.
-    fn pause(&mut self)
+    /// The next event may be long in coming: what waits is written. Whether the record has ended by
+    /// that.
+    fn pause(&mut self) -> bool
         ensures { Continues (holds self.old) [] (holds self.new) };
 }
 
@@ -38,9 +39,10 @@ impl<R: Record> Record for Option<R> {
         }
     }
 
-    fn pause(&mut self) {
-        if let Some(record) = self {
-            record.pause();
+    fn pause(&mut self) -> bool {
+        match self {
+            Some(record) => record.pause(),
+            None => false,
         }
     }
 }

@@ -11,6 +11,7 @@ ghost use Rattle.nutcore.specs.Step.{offered};
 ghost use Rattle.nutcore.specs.Run.{Run};
 ghost use Rattle.nutcore.specs.Cost.{begun, last_cost};
 ghost use Rattle.nutcore.specs.Sound.{IsSound};
+ghost use Rattle.nutcore.specs.Due.{due_second};
 ghost use Rattle.nutcore.specs.History.{owed};
 ghost use Rattle.nutcore.specs.Headline.{SentAndOwed, TakenUp};
 ghost use Rattle.nutcore.specs.Calls.{IsEvent, is_connected, fed, done, opened_as, is_finished, room_of, owed_to, IsOutboxOf, Reads, ReadsUps};
@@ -24,7 +25,7 @@ mod sessions;
 mod status;
 mod view;
 
-use self::drivers::ping_upses;
+use self::drivers::{due_among, ping_upses};
 pub use self::status::Standing;
 use self::status::note_stale;
 use crate::cost::Cost;
@@ -351,6 +352,16 @@ impl Server {
         note_stale(&self.upses, self.max_age, self.moment, moment, notes);
         self.moment = moment;
         ping_upses(&mut self.upses, self.max_age, moment);
+    }
+
+    /// The second before which a tick changes nothing but the moment, and notes nothing: the first
+    /// one after the moment in which a driver may be owed a `PING`, or the data of a UPS become
+    /// stale. It is `u64::MAX` where no driver is connected.
+    pub fn due(&self) -> u64
+        ensures { result ≡ due_second self.now.state }
+    {
+        let due = due_among(&self.upses, self.max_age, self.moment);
+        due.max(self.moment.saturating_add(1))
     }
 
     /// How many lines of the UPS's drivers were refused. The count stops at its greatest number,

@@ -1,8 +1,9 @@
 //! A UPS as the server keeps it: its driver's connection, and what the driver reported.
-ghost use Rattle.std.specs.Prelude.{◌≡◌, ◌≤◌, ◌++◌, Some, true, codes, drop, length, option_copied, take, IfOk, OnOk, OnErr};
+ghost use Rattle.std.specs.Prelude.{◌≡◌, ◌≤◌, ◌++◌, Some, true, codes, drop, length, min, option_copied, take, IfOk, OnOk, OnErr};
 ghost use Rattle.nuttracking.specs.Tracking.{TrackingState};
 ghost use Rattle.nutcore.specs.Ups.{new_ups, after_connecting, after_loss, after_tick, with_fsd, free_room, with_order, with_faulty_line, is_refused, UpsState};
 ghost use Rattle.nutcore.specs.Reports.{with_end, is_unawaited};
+ghost use Rattle.nutcore.specs.Due.{due_of, never};
 ghost use Rattle.nutcore.specs.Notes.{data_state_of, status_of, fault_of, loss_notes, status_note};
 ghost use Rattle.nutcore.specs.Promises.{IsTaken, DoesLine, IsApplied, LacksMemory, Reports, IsFront, front_or, with_hearing, with_note};
 ghost use Rattle.nutcore.specs.declared.note.DataState.TheVariants.{Awaited};
@@ -148,6 +149,25 @@ impl Ups {
         {
             self.pinged = moment;
             self.owed.try_extend_from_slice(PING_LINE).unwrap();
+        }
+    }
+
+    /// The second before which a tick changes nothing of it, and notes nothing.
+    pub(crate) fn due(&self, max_age: u32, moment: u64) -> u64
+        ensures { result ≡ min (due_of max_age moment self.now) never }
+    {
+        let report = &self.report;
+        if !report.connected {
+            return u64::MAX;
+        }
+        let asked = report.heard.max(self.pinged);
+        let ping = asked.saturating_add(u64::from(max_age / 3));
+        let greatest = report.heard.saturating_add(u64::from(max_age));
+        let stale = greatest.saturating_add(1);
+        if moment < stale {
+            ping.min(stale)
+        } else {
+            ping
         }
     }
 

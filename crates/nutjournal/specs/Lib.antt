@@ -2,3 +2,4 @@ pub mod Tally
 pub mod Tallies
 pub mod LogBuffer
 pub mod Drivers
+pub mod Waiting

@@ -1,5 +1,5 @@
 -- What waits for standard error, and what is dropped.
-use Rattle.std.specs.Prelude.{ℕ, ◌+◌, ◌^◌, ◌-◌, min, List, ◌++◌, Bool, ◌&&◌, ◌==◌}
+use Rattle.std.specs.Prelude.{ℕ, ◌+◌, ◌^◌, ◌-◌, min, List, ◌++◌, Bool, ◌&&◌, ◌||◌, ◌==◌}
 use Rattle.std.specs.Prelude.{◌≡◌, Option, [], ◌∷◌, length, take, drop, nat_lt, if◌then◌else◌}
 use Rattle.std.specs.Io.KnownBytes.{Appends}
 use Rattle.nutjournal.specs.declared.log_buffer.LogBuffer.{LogBuffer}
@@ -28,3 +28,7 @@ pub record IsWritten {W : Type 0} (contents : W → Option (List ℕ)) (was is :
   pub count : ℕ
   pub takes : Appends (contents out) (contents out') (take count was)
   pub rest : is ≡ drop count was
+
+-- Lines wait, or a count of dropped ones.
+abbrev pub has_waiting : LogBuffer → Bool
+has_waiting log = nat_lt 0 (length log.waiting) || nat_lt 0 log.dropped

@@ -2,7 +2,7 @@
 use Rattle.std.specs.Prelude.{◌≡◌, ℕ, ◌+◌, ◌-◌, ◌^◌, ◌<◌, ◌==◌, ◌&&◌, ◌||◌, Bool, List, [], ◌∷◌}
 use Rattle.std.specs.Prelude.{◌≢◌, ◌/◌, true, Option, Some, None, if◌then◌else◌, not, nat_lt, min, max, ◌≤◌, length, slice_index, slice_set}
 use Rattle.std.specs.Prelude.{nat_eq}
-use Rattle.std.specs.List.{repeat}
+use Rattle.std.specs.List.{list_any, repeat}
 use Rattle.std.specs.Option.{option_eq}
 use Rattle.nutjournal.specs.declared.tally.Count.{Count}
 use Rattle.nutjournal.specs.declared.tally.Kind.{Kind}
@@ -93,10 +93,17 @@ after_second y is_minute =
       more = if is_reported y is_minute then nothing else y.more;
     }
 
+-- Lines were counted that weren't reported yet.
+abbrev pub has_more : Tally → Bool
+has_more y = list_any (λ n. nat_lt 0 n) y.more
+
 -- Of what no note says, what is new is logged at once, or once a minute.
+abbrev pub is_behind : ℕ → Count → Bool
+is_behind count was = nat_lt was.logged count
+
 abbrev pub is_counted : ℕ → Bool → ℕ → Count → Bool
 is_counted count is_held minute was =
-    nat_lt was.logged count && not (is_held && option_eq nat_eq was.minute (Some minute))
+    is_behind count was && not (is_held && option_eq nat_eq was.minute (Some minute))
 
 abbrev pub more_counted : ℕ → Bool → ℕ → Count → Option ℕ
 more_counted count is_held minute was =

@@ -1,5 +1,6 @@
 //! What was noted of each driver, and what a second logs of it.
-ghost use Rattle.std.specs.Prelude.{◌≡◌};
+ghost use Rattle.std.specs.Prelude.{◌≡◌, is_some};
+ghost use Rattle.std.specs.List.{list_any};
 ghost use Rattle.nutjournal.specs.Drivers.{after_second, after_state, is_first_stale, is_late, unless_same};
 ghost use Rattle.nutjournal.specs.Tally.{one_more};
 
@@ -51,6 +52,13 @@ impl Driver {
         matches!((was, state), (DataState::Awaited, DataState::Stale))
     }
 
+    /// Whether it hasn't reported everything, and may be late.
+    pub fn is_awaited(&self) -> bool
+        ensures { result ≡ is_some self.now.awaited }
+    {
+        self.awaited.is_some()
+    }
+
     /// A second begins, in which it has this error. What is logged of it: an error exactly where it
     /// is another one, and data as stale exactly once they are awaited for longer than the greatest
     /// age.
@@ -72,4 +80,11 @@ impl Driver {
             is_late,
         }
     }
+}
+
+/// Whether one of these drivers hasn't reported everything, and may be late.
+pub fn is_any_awaited(drivers: &[Driver]) -> bool
+    ensures { result ≡ list_any (λ x. is_some x.awaited) drivers.now }
+{
+    drivers.iter().any(|driver| driver.is_awaited())
 }

@@ -1,11 +1,12 @@
 //! The journal of the UPSs and their clients while they are served.
-ghost use Rattle.std.specs.Prelude.{◌≡◌, ◌≢◌, IfOk, Some};
+ghost use Rattle.std.specs.Prelude.{◌≡◌, ◌≢◌, ◌≤◌, ◌||◌, [], length, true, IfOk, Some};
 ghost use Rattle.nutjournal.specs.Tally.{begins_minute};
 ghost use Rattle.nutjournal.specs.Tallies.{LeadsTo, after_second_of};
+ghost use Rattle.nutjournal.specs.Waiting.{AsksForMore, are_behind, holds};
 
-use crate::drivers::{Driver, Drivers};
+use crate::drivers::{Driver, Drivers, is_any_awaited};
 use crate::log_buffer::{INFO, LogBuffer, WARNING};
-use crate::tallies::{Of, Tallies};
+use crate::tallies::{Of, Tallies, is_any_counted};
 use crate::tally::{Count, Kind, MINUTE, begins_minute};
 use nutcommand::Said;
 use nutcore::{DataState, Deed, MaxAge, Note, Server, UpsId, Verb, Who};
@@ -37,6 +38,8 @@ pub struct Journal {
     max_age: u64,
     counts: [Count; 3],
     is_record_cut: bool,
+    /// Something is to be logged in the next second, or later.
+    has_more: bool,
 }
 
 impl Journal {
@@ -64,11 +67,13 @@ impl Journal {
             max_age: u64::from(max_age.seconds()),
             counts: [Count::default(); 3],
             is_record_cut: false,
+            has_more: true,
         })
     }
 
     /// Logs the notes of the server's last event, or counts them. Where a second begins, it first
-    /// logs what was counted, and all else. Where neither is so it does nothing.
+    /// logs what was counted, and all else. Where neither is so it does nothing. The answer is whether
+    /// more is to be logged, for which it is to be called in the next second.
     ///
     /// `error_of` gives the number of the system's error by which the driver of a UPS couldn't be
     /// connected to. `counts` are, since the start, the clients that were sent away for want of
@@ -82,9 +87,14 @@ impl Journal {
         error_of: E,
         counts: [u64; 3],
         is_record_cut: bool,
-    )
+    ) -> bool
         requires { E.IsAlwaysCallable error_of }
         ensures moment { self.new.moment ≡ Some server.now.state.moment }
+        ensures noted { server.now.notes ≢ [] → self.new.has_more ≡ true }
+        ensures held { AsksForMore (length server.now.state.list) self.old
+            → AsksForMore (length server.now.state.list) self.new }
+        ensures more { result
+            ≡ (self.new.has_more || are_behind counts is_record_cut self.new) }
         // Within a second the tallies only change by lines, each of which is logged or counted.
         ensures goes_on { self.old.moment ≡ Some server.now.state.moment
             → LeadsTo self.old.tallies self.new.tallies }
@@ -100,12 +110,38 @@ impl Journal {
             self.log_counts(server.current_moment() / MINUTE, counts, is_record_cut);
             self.tallies.next_second(is_minute);
         } else if server.notes().is_empty() {
-            return;
+            return self.has_more || self.is_behind(counts, is_record_cut);
         }
         for note in server.notes() {
             self.log_note(server, note);
         }
         self.log.flush(rt);
+        self.has_more = !server.notes().is_empty() || self.holds(server.ups().len());
+        self.has_more || self.is_behind(counts, is_record_cut)
+    }
+
+    /// Whether something is still to be logged: lines that wait, what was counted of one of so many
+    /// UPSs, or that its driver is late.
+    fn holds(&self, count: usize) -> bool
+        requires { count ≤ 256 }
+        ensures { result ≡ holds count self.now }
+    {
+        self.log.has_waiting()
+            || is_any_counted(&self.tallies.upses[..count])
+            || is_any_awaited(&self.drivers[..count])
+    }
+
+    /// Whether one of these counts is more than what was logged of it, or the record has ended
+    /// since.
+    fn is_behind(&self, counts: [u64; 3], is_record_cut: bool) -> bool
+        ensures { result ≡ are_behind counts is_record_cut self.now }
+    {
+        for place in 0..COUNTED.len() {
+            if self.counts[place].is_behind(counts[place]) {
+                return true;
+            }
+        }
+        is_record_cut != self.is_record_cut
     }
 
     /// Logs what is new in this second of the drivers, and what was counted of them, where a minute

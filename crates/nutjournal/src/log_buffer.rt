@@ -1,7 +1,7 @@
 //! The lines of the journal on their way to standard error. It may be a pipe or a terminal that
 //! nobody reads, so no write waits.
 ghost use Rattle.std.specs.Prelude.{◌≡◌, [], IfOk};
-ghost use Rattle.nutjournal.specs.LogBuffer.{IsWritten, OneLineMore, after_line};
+ghost use Rattle.nutjournal.specs.LogBuffer.{IsWritten, OneLineMore, after_line, has_waiting};
 
 use arrayvec::ArrayString;
 use libc::STDERR_FILENO;
@@ -99,6 +99,13 @@ impl LogBuffer {
         } else {
             self.dropped = self.dropped.saturating_add(1);
         }
+    }
+
+    /// Whether lines wait, or a count of dropped ones.
+    pub fn has_waiting(&self) -> bool
+        ensures { result ≡ has_waiting self.now }
+    {
+        self.waiting.len() > 0 || self.dropped > 0
     }
 
     /// Writes what waits, as far as standard error takes it without waiting.

@@ -1,6 +1,7 @@
 //! The tallies of all UPSs and addresses.
 ghost use Rattle.std.specs.Prelude.{◌≡◌, ◌≤◌, map};
-ghost use Rattle.nutjournal.specs.Tally.{after_second, is_logged};
+ghost use Rattle.std.specs.List.{list_any};
+ghost use Rattle.nutjournal.specs.Tally.{after_second, has_more, is_logged};
 ghost use Rattle.nutjournal.specs.Tallies.{after_line_of, after_second_of, is, place_of, tally_of, with_address};
 
 use crate::tally::{Kind, Tally};
@@ -97,6 +98,13 @@ impl Tallies {
         }
         self.addresses.len()
     }
+}
+
+/// Whether lines were counted in one of these tallies that weren't reported yet.
+pub fn is_any_counted(tallies: &[Tally]) -> bool
+    ensures { result ≡ list_any has_more tallies.now }
+{
+    tallies.iter().any(|tally| tally.has_more())
 }
 
 /// Whether that is this address.

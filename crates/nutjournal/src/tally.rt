@@ -1,7 +1,7 @@
 //! How many lines of a UPS, or of the clients of an address, are logged in a second. All more are
 //! counted.
 ghost use Rattle.std.specs.Prelude.{◌≡◌};
-ghost use Rattle.nutjournal.specs.Tally.{after_count, after_line, after_second, begins_minute, is_logged, is_restless, limit_of, more_counted, reported};
+ghost use Rattle.nutjournal.specs.Tally.{after_count, after_line, after_second, begins_minute, has_more, is_behind, is_logged, is_restless, limit_of, more_counted, reported};
 
 use crate::log_buffer::{CRITICAL, INFO, NOTICE, WARNING};
 use std::fmt::{self, Formatter, Write};
@@ -142,6 +142,13 @@ impl Tally {
         }
     }
 
+    /// Whether lines were counted that weren't reported yet.
+    pub fn has_more(&self) -> bool
+        ensures { result ≡ has_more self.now }
+    {
+        self.more.iter().any(|count| *count > 0)
+    }
+
     /// The priority of the most urgent line that was counted, if one was.
     pub fn priority(&self) -> Option<u8> {
         let rows = KINDS.iter().zip(&self.more);
@@ -173,6 +180,13 @@ pub struct Count {
 }
 
 impl Count {
+    /// Whether there are more than were logged.
+    pub fn is_behind(&self, count: u64) -> bool
+        ensures { result ≡ is_behind count self.now }
+    {
+        count > self.logged
+    }
+
     /// How many there are since some were logged, where that is logged now: exactly where there are
     /// some, and, of what is logged once a minute, none were logged in this one.
     pub fn more(&mut self, count: u64, is_held: bool, minute: u64) -> Option<u64>

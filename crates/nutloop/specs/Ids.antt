@@ -1,7 +1,8 @@
 -- Ids for tracked orders: which are handed in at the start and at ticks.
-use Rattle.std.specs.Prelude.{◌≡◌, ℕ, suc, ⊤, List, Option, Some, None, length}
+use Rattle.std.specs.Prelude.{◌≡◌, ◌+◌, ℕ, suc, ⊤, List, Option, Some, None, length, min}
 use Rattle.std.specs.Int.{w128, from_be_bytes}
 use Rattle.std.specs.Io.KnownBytes.{Consumes}
+use Rattle.nuttracking.specs.declared.limits.TheConstants.{ID_LIMIT}
 use Rattle.nutloop.specs.declared.ids.TheConstants.{ID_SIZE}
 
 -- The id of the next sixteen bytes that a reader has left, the first of them the highest. A read
@@ -18,3 +19,7 @@ abbrev pub GivesNext : {F : Type 0} → (F → Option (List ℕ)) → ℕ → F 
 GivesNext remaining due old (Some id) left new =
     (due ≡ suc left) × ReadsId (remaining old) (Some id) (remaining new)
 GivesNext remaining due old None left new = left ≡ 0
+
+-- One more is due for each second, and no more than may be available.
+abbrev pub more_due : ℕ → ℕ → ℕ
+more_due seconds due = min (due + seconds) ID_LIMIT

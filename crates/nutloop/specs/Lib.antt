@@ -4,6 +4,7 @@ pub mod Ids
 pub mod NutBytes
 pub mod Numbers
 pub mod OverMio
+pub mod Waking
 pub mod Pass
 pub mod Sockets
 pub mod Turn

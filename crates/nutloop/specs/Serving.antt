@@ -1,5 +1,5 @@
 -- Serving: turns one after another, up to the first that fails; and what holds of any turns.
-use Rattle.std.specs.Prelude.{◌≡◌, ℕ, zero, suc, List, [], ◌∷◌, Result, Ok, Err, All, ◌++◌}
+use Rattle.std.specs.Prelude.{◌≡◌, ℕ, zero, suc, Bool, List, [], ◌∷◌, Result, Ok, Err, All, ◌++◌}
 use Rattle.std.specs.Fn.{Called, Mut}
 use denote.Ref.{Bor}
 use Rattle.nutcore.specs.declared.event.Event.{Event}
@@ -64,9 +64,10 @@ module _ {S R : Type 0} (told : S → Told) (holds : R → Recorded) where
     pub recorded : Continues (holds old.kept) events (holds new.kept)
     pub noted : notes ≡ notes_along old.server.state events outcomes
 
--- The watcher is called with this server, these sockets and this record, and is this one then.
+-- The watcher is called with this server, these sockets and this record, and is this one then. It
+-- answers whether the next look ends soon.
 pub record IsShown {W S R : Type 0}
-    (g : Mut W (Bor RunningServer × (Bor S × (Bor R × Unit {0}))) (Unit {0}))
+    (g : Mut W (Bor RunningServer × (Bor S × (Bor R × Unit {0}))) Bool)
     (watcher : W) (shown : Running S R) (next : W) : Type 0 where
   pub first : Bor RunningServer
   pub second : Bor S
@@ -74,7 +75,8 @@ pub record IsShown {W S R : Type 0}
   pub server : first.now ≡ shown.server
   pub sockets : second.now ≡ shown.sockets
   pub kept : third.now ≡ shown.kept
-  pub called : Called g watcher (first, (second, (third, tt))) tt next
+  pub soon : Bool
+  pub called : Called g watcher (first, (second, (third, tt))) soon next
 
 -- The turns of serving without what is shown of them.
 abbrev pub TurnsUpTo : {S R : Type 0} → (S → Told) → (R → Recorded) → Running S R

@@ -1,6 +1,6 @@
 //! Ids for tracked orders: where they come from, and how many are still to be handed in.
-ghost use Rattle.std.specs.Prelude.{◌≡◌, ◌+◌, ◌^◌, ◌-◌, min};
-ghost use Rattle.nutloop.specs.Ids.{GivesNext};
+ghost use Rattle.std.specs.Prelude.{◌≡◌};
+ghost use Rattle.nutloop.specs.Ids.{GivesNext, more_due};
 ghost use Rattle.nuttracking.specs.declared.limits.TheConstants.{ID_LIMIT};
 
 use nuttracking::ID_LIMIT;
@@ -43,11 +43,12 @@ impl<F: Read> Ids<F> {
         None
     }
 
-    /// After a tick one more is due.
-    pub fn tick(&mut self)
-        ensures due { self.new.due ≡ min (self.old.due + 1) (2 ^ 64 - 1) }
+    /// After a tick one more is due for each of these seconds, and no more than may be available.
+    pub fn tick(&mut self, seconds: u64)
+        ensures due { self.new.due ≡ more_due seconds self.old.due }
         ensures bytes { self.new.bytes ≡ self.old.bytes }
     {
-        self.due = self.due.saturating_add(1);
+        let more = seconds.min(ID_LIMIT as u64) as usize;
+        self.due = self.due.saturating_add(more).min(ID_LIMIT);
     }
 }

@@ -1,10 +1,13 @@
 //! The sockets over `mio`: clients come over TCP, and drivers are connected to over Unix sockets.
-ghost use Rattle.std.specs.Prelude.{◌≡◌, ◌*◌, ◌-◌, ◌∷◌, [], IfOk, Some, true};
+ghost use Rattle.std.specs.Prelude.{◌≡◌, ◌≤◌, ◌*◌, ◌-◌, ◌∷◌, [], IfOk, IfSome, Some};
+ghost use Rattle.std.specs.Option.{option_map};
 ghost use Rattle.nutio.specs.Ends.{IsCounted, counted};
 ghost use Rattle.nutloop.specs.Sockets.{Answers, Begins, Knows};
 ghost use Rattle.std.specs.Duration.{as_nanos};
-ghost use Rattle.nutloop.specs.Clock.{Ticks, due_tick, next_second, tick_in};
+ghost use Rattle.nutloop.specs.Clock.{Ticks, due_tick, tick_in};
+ghost use Rattle.nutloop.specs.Ids.{more_due};
 ghost use Rattle.nutloop.specs.OverMio.{GivesTurn, error_of, passing_of, refused, told_of};
+ghost use Rattle.nutloop.specs.Waking.{is_busy, is_due_soon, wake_second};
 ghost use Rattle.nutloop.specs.declared.sockets.Call.TheVariants.{Refused};
 
 mod clients;
@@ -20,9 +23,9 @@ use crate::Ids;
 use crate::sockets::{Broken, Got, Ready, Sockets};
 use arrayvec::ArrayVec;
 use clients::{Clients, slot_of, take_in};
-use closing::{CLOSING_LIMIT, Closing, close};
+use closing::{CLOSING_LIMIT, Closing, close, first_end, is_any_readable};
 use door::Door;
-use drivers::{Driver, Drivers, connect, socket_of};
+use drivers::{Driver, Drivers, connect, is_any_absent, socket_of};
 use mio::{Events, Poll};
 use nut_bytes::keep;
 use nutcore::{ClientId, Peer, Server, Standing, UpsId};
@@ -187,22 +190,20 @@ impl<'a, R: Net + Clock, F: Read + Drop> MioSockets<'a, R, F> {
         })
     }
 
-    /// Asks the system, and waits for it up to the next tick where nobody had a turn; and the
-    /// clock. A tick, where the second is a new one, or else the first turn of a new pass.
-    fn first_turn(&mut self, server: &Server) -> io::Result<Ready>
+    /// Asks the system, and waits for it where nobody had a turn and nothing is due; and the clock. A
+    /// tick, where the second is a new one, or else the first turn of a new pass.
+    fn first_turn(&mut self, server: &Server, soon: bool) -> io::Result<Ready>
         ensures begins { IfOk result (λ ready.
             Begins server.now.state ready (Some (passing_of self.new))) }
         ensures tick { IfOk result (λ ready.
             Ticks (tick_in ready) self.old.second self.new.second) }
+        ensures ids { IfOk result (λ ready. IfSome (tick_in ready) (λ second.
+            option_map (λ ids. ids.due) self.new.ids
+            ≡ option_map (λ ids. more_due (second - self.old.second) ids.due) self.old.ids)) }
         ensures failures { self.new.failures ≡ self.old.failures }
     {
-        let is_left = self.closing.iter().any(|one| one.socket.readable);
-        let most = if self.pass.had_turn || is_left {
-            Duration::ZERO
-        } else {
-            up_to_tick(self.second, self.start.elapsed(self.rt)?)
-        };
-        self.wait(most)?;
+        let until = self.wakes_at(server, soon);
+        self.wait(server, soon, until)?;
         self.hear();
         self.pass = Pass::default();
         let now = self.start.elapsed(self.rt)?.as_secs();
@@ -213,22 +214,54 @@ impl<'a, R: Net + Clock, F: Read + Drop> MioSockets<'a, R, F> {
         let Some(second) = due_tick(self.second, now) else {
             return Ok(self.visit(server).unwrap_or(Ready::Nothing));
         };
-        self.second = second;
         if let Some(ids) = &mut self.ids {
-            ids.tick();
+            ids.tick(second - self.second);
         }
-        self.door.is_knocked_at = true;
+        self.second = second;
+        self.door.is_knocked_at |= self.door.is_tried_again;
         connect(self.rt, self.poll.registry(), &mut self.drivers, server);
         Ok(Ready::Tick(second))
     }
 
-    /// Asks the system what is ready, and waits for it so long. Where somebody had a turn in the pass
-    /// it does not wait: others may be ready.
-    fn wait(&mut self, most: Duration) -> io::Result<()>
-        requires idle { self.old.pass.had_turn ≡ true → as_nanos most ≡ 0 }
+    /// The second up to which a look may wait: nothing is due before it.
+    fn wakes_at(&self, server: &Server, soon: bool) -> u64
+        ensures { result ≡ wake_second server.now.state soon self.now }
+    {
+        if self.is_busy() {
+            return 0;
+        }
+        let due = server.due().min(first_end(self.closing.as_slice()));
+        if self.is_due_soon(server, soon) {
+            due.min(self.second.saturating_add(1))
+        } else {
+            due
+        }
+    }
+
+    /// Whether somebody had a turn in the pass, or a closing connection may be read.
+    fn is_busy(&self) -> bool
+        ensures { result ≡ is_busy self.now }
+    {
+        self.pass.had_turn || is_any_readable(self.closing.as_slice())
+    }
+
+    /// Whether the look is to end soon, or something is tried again in the next second.
+    fn is_due_soon(&self, server: &Server, soon: bool) -> bool
+        ensures { result ≡ is_due_soon server.now.state soon self.now }
+    {
+        soon || self.door.is_tried_again || is_any_absent(self.drivers.as_slice(), server)
+    }
+
+    /// Asks the system what is ready, and waits for it up to this second.
+    fn wait(&mut self, server: &Server, soon: bool, until: u64) -> io::Result<()>
+        requires awake { until ≤ wake_second server.now.state soon self.old }
         ensures { self.new
             ≡ record self.old { poll = self.new.poll; events = self.new.events } }
     {
+        let most = match until {
+            0 => Duration::ZERO,
+            _ => up_to(until, self.start.elapsed(self.rt)?),
+        };
         self.poll.poll(&mut self.events, Some(most))?;
         Ok(())
     }
@@ -277,11 +310,11 @@ impl<'a, R: Net + Clock, F: Read + Drop> MioSockets<'a, R, F> {
     }
 }
 
-/// How long it is up to the tick after this second, so long after the start.
-fn up_to_tick(second: u64, elapsed: Duration) -> Duration
-    ensures { as_nanos result ≡ next_second second * 1_000_000_000 - as_nanos elapsed }
+/// How long it is up to this second, so long after the start.
+fn up_to(second: u64, elapsed: Duration) -> Duration
+    ensures { as_nanos result ≡ second * 1_000_000_000 - as_nanos elapsed }
 {
-    Duration::from_secs(second.saturating_add(1)).saturating_sub(elapsed)
+    Duration::from_secs(second).saturating_sub(elapsed)
 }
 
 /// The second of the tick that is due, where the last one was at this second.
@@ -302,8 +335,8 @@ impl<'a, R: Net + Clock, F: Read + Drop> Sockets for MioSockets<'a, R, F> {
         }
     }
 
-    fn look(&mut self, server: &Server) -> Result<Ready, Broken> {
-        let answer = self.first_turn(server).map_err(|_| Broken);
+    fn look(&mut self, server: &Server, soon: bool) -> Result<Ready, Broken> {
+        let answer = self.first_turn(server, soon).map_err(|_| Broken);
         self.count(answer)
     }
 

@@ -261,7 +261,7 @@ fn had_turn<S: Sockets>(server: &Server, sockets: &mut S, c: ClientId)
 }
 
 /// What is ready: it is known, or nothing is and a look finds it. Before a look, which may wait, the
-/// record writes what waits.
+/// record writes what waits. The look ends soon where the record ended by that, which is logged.
 ///
 /// # Errors
 ///
@@ -270,6 +270,7 @@ fn ready<S: Sockets, R: Record>(
     server: &Server,
     sockets: &mut S,
     recorder: &mut R,
+    soon: bool,
 ) -> Result<Ready, LoopFault>
     ensures found { ReadyGives server.now.state (S.told sockets.old) result (S.told sockets.new) }
     ensures recorded { Continues (R.holds recorder.old) [] (R.holds recorder.new) }
@@ -277,15 +278,16 @@ fn ready<S: Sockets, R: Record>(
     if let Some(ready) = sockets.known(server) {
         return Ok(ready);
     }
-    recorder.pause();
-    match sockets.look(server) {
+    let ended = recorder.pause();
+    match sockets.look(server, soon || ended) {
         Ok(ready) => Ok(ready),
         Err(_) => Err(LoopFault::Ready),
     }
 }
 
 /// One turn: asks once what is ready, and does that row: at most one read or write, and at most one
-/// event of the server, which is recorded before it happens.
+/// event of the server, which is recorded before it happens. It waits only up to the next second
+/// where `soon`.
 ///
 /// # Errors
 ///
@@ -294,11 +296,12 @@ pub fn turn<S: Sockets, R: Record>(
     server: &mut Server,
     sockets: &mut S,
     recorder: &mut R,
+    soon: bool,
 ) -> Result<(), LoopFault>
     ensures { TurnGives (around server.old (S.told sockets.old) (R.holds recorder.old))
         result (around server.new (S.told sockets.new) (R.holds recorder.new)) }
 {
-    match ready(server, sockets, recorder)? {
+    match ready(server, sockets, recorder, soon)? {
         Ready::Nothing => {}
         Ready::Newcomer => return newcomer(server, sockets, recorder),
         Ready::Tick(seconds) => {

@@ -83,7 +83,7 @@ fn serve<'a>(
         ) {
             Ok(mut record) => {
                 let ended = serve_over(rt, server, &mut sockets, &mut record, files, service);
-                record.pause();
+                let _ = record.pause();
                 ended
             }
             Err(ending) => Err(ending),
@@ -176,7 +176,7 @@ fn print_bound<'a>(
 
 /// Goes round the peers up to the first fault of the loop, and writes what is new. Whatever the
 /// sockets do, it is one run of the server, of which the record has the events and the journal is
-/// shown the notes.
+/// shown the notes. The journal says whether it has more to log in the next second.
 fn go_round<'a, F: Read + Drop, W: Sink + Drop>(
     rt: &HostRuntime,
     server: &mut Server,
@@ -200,7 +200,7 @@ fn go_round<'a, F: Read + Drop, W: Sink + Drop>(
     match nutloop::serve(server, sockets, recorder, |server, sockets, recorder| {
         let error_of = |u| sockets.driver_error(u);
         let is_cut = matches!(recorder, Some(one) if one.is_cut());
-        journal.write(rt, server, error_of, sockets.counts(), is_cut);
+        journal.write(rt, server, error_of, sockets.counts(), is_cut)
     }) {
         Ok(()) => Ok(()),
         Err(fault) => Err(Ending::Loop(fault)),

@@ -56,7 +56,7 @@ impl<'a> Served<'a> {
         }
         self.turns += 1;
         self.driver.step()?;
-        turn(&mut self.server, &mut self.sockets, &mut self.record)?;
+        turn(&mut self.server, &mut self.sockets, &mut self.record, true)?;
         Ok(())
     }
 }

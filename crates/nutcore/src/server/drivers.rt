@@ -3,6 +3,7 @@ ghost use Rattle.std.specs.Prelude.{◌≡◌, map, length, MatchResult, OnOk, I
 ghost use Rattle.std.specs.Option.{option_map};
 ghost use Rattle.nutcore.specs.Server.{ups_at};
 ghost use Rattle.nutcore.specs.Ups.{after_tick};
+ghost use Rattle.nutcore.specs.Due.{due_among};
 ghost use Rattle.nutcore.specs.Promises.{IsNotConnected};
 ghost use Rattle.nutcore.specs.Calls.{is_connected};
 ghost use Rattle.nutcore.specs.declared.event.Fault.TheVariants.{NoSuchUps};
@@ -52,4 +53,16 @@ pub(super) fn ping_upses(upses: &mut Vec<Ups>, max_age: u32, moment: u64)
         let ups = &mut upses[place];
         ups.tick(max_age, moment);
     }
+}
+
+/// The second before which a tick changes nothing of them, and notes nothing.
+pub(super) fn due_among(upses: &Vec<Ups>, max_age: u32, moment: u64) -> u64
+    ensures { result ≡ due_among max_age moment upses.now.items }
+{
+    let mut due = u64::MAX;
+    for place in 0..upses.len() {
+        let ups = &upses[place];
+        due = due.min(ups.due(max_age, moment));
+    }
+    due
 }

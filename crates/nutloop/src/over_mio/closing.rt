@@ -1,6 +1,7 @@
 //! Connections of clients whose sessions have ended.
-ghost use Rattle.std.specs.Prelude.{◌≤◌, vec_len};
+ghost use Rattle.std.specs.Prelude.{◌≡◌, ◌≤◌, vec_len};
 ghost use Rattle.nutloop.specs.declared.over_mio.closing.TheConstants.{CLOSING_LIMIT};
+ghost use Rattle.nutloop.specs.Waking.{first_end, is_any_readable};
 
 use super::socket::Socket;
 use super::tokens::Source;
@@ -12,7 +13,7 @@ use std::net::Shutdown;
 /// The most connections that are read on after their sessions. Of more the oldest one is closed.
 pub(super) const CLOSING_LIMIT: usize = 64;
 
-/// For how many ticks at most such a connection is read on.
+/// For how many seconds at most such a connection is read on, as ticks count them.
 pub(super) const CLOSING_TICKS: u64 = 2;
 
 /// The most bytes that are read of such a connection between two looks.
@@ -74,4 +75,22 @@ pub(super) fn close(
         }
         let _ = closing.push(connection);
     }
+}
+
+/// Whether one of these connections may be read.
+pub(super) fn is_any_readable(closing: &[Closing]) -> bool
+    ensures { result ≡ is_any_readable closing.now }
+{
+    closing.iter().any(|connection| connection.socket.readable)
+}
+
+/// The second at which the first of these connections ends, and `u64::MAX` where there is none.
+pub(super) fn first_end(closing: &[Closing]) -> u64
+    ensures { result ≡ first_end closing.now }
+{
+    let mut end = u64::MAX;
+    for connection in closing {
+        end = end.min(connection.until);
+    }
+    end
 }

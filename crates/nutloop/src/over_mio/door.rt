@@ -18,6 +18,9 @@ pub(super) struct Door {
     pub listener: TcpListener,
     /// Newcomers may be waiting.
     pub is_knocked_at: bool,
+    /// The last `accept` that took nobody in failed for want of something: newcomers may still be
+    /// waiting, and no event would report them.
+    pub is_tried_again: bool,
     pub newcomer: Option<TcpStream>,
     /// How often the system took no newcomer in. The count stops at its greatest number.
     pub failures: u64,
@@ -25,7 +28,7 @@ pub(super) struct Door {
 
 /// Whether newcomers may be waiting after this error of `accept`. A newcomer that left gives
 /// ECONNABORTED (accept(2)). All errors pass by themselves but one: it is tried again at the next
-/// event or tick.
+/// event, or second.
 ///
 /// # Errors
 ///
@@ -43,6 +46,16 @@ fn may_wait_after(kind: ErrorKind) -> Result<bool, Broken>
     }
 }
 
+/// Whether this error of `accept` says that something is wanting, as a descriptor or memory.
+fn is_for_want(kind: ErrorKind) -> bool
+    ensures nobody { kind ≡ ErrorKind.WouldBlock → result ≡ false }
+    ensures left { kind ≡ ErrorKind.ConnectionAborted → result ≡ false }
+    ensures want { kind ≢ ErrorKind.WouldBlock → kind ≢ ErrorKind.ConnectionAborted
+        → result ≡ true }
+{
+    !matches!(kind, ErrorKind::WouldBlock | ErrorKind::ConnectionAborted)
+}
+
 impl Door {
     /// Listens at this address. Newcomers are looked for before the first event.
     pub fn open<R: Net>(
@@ -57,6 +70,7 @@ impl Door {
             alloc,
             listener,
             is_knocked_at: true,
+            is_tried_again: false,
             newcomer: None,
             failures: 0,
         })
@@ -72,7 +86,8 @@ impl Door {
             Ok((stream, address)) => Ok(self.take_in(stream, address.ip()).ok()),
             Err(error) => {
                 self.is_knocked_at = may_wait_after(error.kind())?;
-                if !self.is_knocked_at && error.kind() != ErrorKind::WouldBlock {
+                self.is_tried_again = is_for_want(error.kind());
+                if self.is_tried_again {
                     self.failures = self.failures.saturating_add(1);
                 }
                 Ok(None)

@@ -1,7 +1,8 @@
 //! Drivers.
-ghost use Rattle.std.specs.Prelude.{◌<◌, ◌≤◌, length, IfSome};
+ghost use Rattle.std.specs.Prelude.{◌≡◌, ◌<◌, ◌≤◌, length, IfSome};
 ghost use Rattle.nutusers.specs.declared.limits.TheConstants.{UPS_LIMIT};
 ghost use Rattle.nutloop.specs.Pass.{FirstFrom, driver_at};
+ghost use Rattle.nutloop.specs.Waking.{is_any_absent};
 
 use super::pass::Way;
 use super::socket::{Socket, both_ways};
@@ -57,6 +58,20 @@ pub(super) fn connect<R: Net>(rt: &R, registry: &Registry, drivers: &mut Drivers
             driver.connect(rt, registry, UpsId { place: place as u8 }, server);
         }
     }
+}
+
+/// Whether one of the drivers isn't connected, and is tried again.
+pub(super) fn is_any_absent(drivers: &[Driver], server: &Server) -> bool
+    requires { length drivers.now ≤ UPS_LIMIT }
+    ensures { result ≡ is_any_absent server.now.state 0 drivers.now }
+{
+    for place in 0..drivers.len() {
+        let u = UpsId { place: place as u8 };
+        if drivers[place].socket.is_none() && server.ups().socket(u).is_some() {
+            return true;
+        }
+    }
+    false
 }
 
 /// A socket that is connected to this path.

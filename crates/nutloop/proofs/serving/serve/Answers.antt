@@ -16,10 +16,10 @@ loop-preserved g c = (
   (
     c.loop.invariant.1.0 ++ c.turn.new.server.notes,
     shown_then g.S.Sockets.told g.R.Record.holds (IsShown g.W.FnMut) c.loop.counter (running c.args.server.now c.args.sockets.now c.args.recorder.now) c.args.watch c.loop.invariant.1.0 (running c.loop.server c.loop.sockets c.loop.recorder) c.loop.watch
-        (running c.turn.new.server c.turn.new.sockets c.turn.new.recorder) c.watch.new.self c.loop.invariant.1.1
+        (running c.turn.new.server c.turn.new.sockets c.turn.new.recorder) c.watch-soon.new.self c.loop.invariant.1.1
         (subst (λ (r : RunningServer). IsTurn (around r (g.S.Sockets.told c.loop.sockets) (g.R.Record.holds c.loop.recorder)) (around c.turn.new.server (g.S.Sockets.told c.turn.new.sockets) (g.R.Record.holds c.turn.new.recorder)))
         c.forget.ensures.begun c.in_default.ensures)
-        (record { first = _; second = _; third = _; server = refl; sockets = refl; kept = refl; called = c.watch.ensures }),
+        (record { first = _; second = _; third = _; server = refl; sockets = refl; kept = refl; soon = _; called = c.watch-soon.ensures }),
   ),
 )
 

@@ -1,4 +1,4 @@
-use Rattle.std.proofs.Common.{◌≡◌, ◌∙◌, ap, refl, sym, List, subst, arith}
+use Rattle.std.proofs.Common.{◌≡◌, ◌∙◌, refl, sym, List, subst, arith}
 use Rattle.nutcore.specs.Session.{SessionState, without}
 use Rattle.nutcore.specs.Server.{ServerState}
 use Rattle.nutcore.specs.Sound.{IsSound}

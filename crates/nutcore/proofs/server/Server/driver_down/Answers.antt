@@ -1,4 +1,4 @@
-use Rattle.std.proofs.Common.{◌∙◌, true, ap, refl, rules}
+use Rattle.std.proofs.Common.{◌∙◌, true, refl, rules}
 use Rattle.nutcore.specs.declared.event.Event.TheVariants.{DriverDown}
 use Rattle.nutcore.proofs.DriverSteps.{stood_within, stood, down_does, down_noted}
 use Rattle.nutcore.proofs.OneEvent.{done, plain_event, handed_on, no_driver, none_noted}

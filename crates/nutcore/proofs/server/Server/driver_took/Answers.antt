@@ -1,4 +1,4 @@
-use Rattle.std.proofs.Common.{◌∙◌, true, ap, refl, rules}
+use Rattle.std.proofs.Common.{◌∙◌, true, refl, rules}
 use Rattle.nutcore.specs.declared.event.Event.TheVariants.{DriverTook}
 use Rattle.nutcore.proofs.DriverSteps.{stood_within, stood, took_does}
 use Rattle.nutcore.proofs.OneEvent.{done, plain_event, handed_on, no_driver, none_noted}

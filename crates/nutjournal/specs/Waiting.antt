@@ -1,0 +1,29 @@
+-- What is still to be logged, for which the journal asks to be called in the next second.
+use Rattle.std.specs.Prelude.{◌≡◌, ℕ, Bool, true, false, List, [], ◌∷◌, ◌||◌, not, if◌then◌else◌, is_some}
+use Rattle.std.specs.Prelude.{take}
+use Rattle.std.specs.List.{list_any}
+use Rattle.nutjournal.specs.declared.journal.Journal.{Journal}
+use Rattle.nutjournal.specs.declared.tally.Count.{Count}
+use Rattle.nutjournal.specs.LogBuffer.{has_waiting}
+use Rattle.nutjournal.specs.Tally.{has_more, is_behind}
+
+-- Lines wait, or lines of one of the first UPSs were counted, or its driver may be late.
+abbrev pub holds : ℕ → Journal → Bool
+holds count j =
+    has_waiting j.log
+    || (list_any has_more (take count j.tallies.upses)
+    || list_any (λ x. is_some x.awaited) (take count j.drivers))
+
+-- Then it asks for more.
+abbrev pub AsksForMore : ℕ → Journal → Type 0
+AsksForMore count j = holds count j ≡ true → j.has_more ≡ true
+
+-- One of these counts is more than what was logged of it,
+abbrev pub is_one_behind : List ℕ → List Count → Bool
+is_one_behind (n ∷ ns) (was ∷ weres) = is_behind n was || is_one_behind ns weres
+is_one_behind _ _ = false
+
+-- or the record has ended since.
+abbrev pub are_behind : List ℕ → Bool → Journal → Bool
+are_behind counts is_record_cut j =
+    is_one_behind counts j.counts || (if is_record_cut then not j.is_record_cut else j.is_record_cut)
