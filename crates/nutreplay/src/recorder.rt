@@ -78,7 +78,7 @@ impl<W: Sink + Drop> Record for Recorder<W> {
     fn pause(&mut self) -> bool {
         let was_cut = self.is_cut;
         self.flush();
-        self.is_cut && !was_cut
+        self.is_cut != was_cut
     }
 }
 
