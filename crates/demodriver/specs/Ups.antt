@@ -1,4 +1,5 @@
--- The UPS that is simulated: how it begins, what a second and the power do to it, and what it reports.
+-- The UPS that is simulated: how it begins, what a second and the power do to it, and what it
+-- reports.
 use Rattle.std.specs.Prelude.{ℕ, ◌+◌, ◌-◌, ◌%◌, min, Bool, true, false, List, nat_le, codes}
 use Rattle.std.specs.Prelude.{if◌then◌else◌}
 use Rattle.demodriver.specs.declared.ups.Ups.{Ups}

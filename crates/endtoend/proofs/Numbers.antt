@@ -1,5 +1,7 @@
 -- Natural numbers, as they are written.
-use Rattle.std.proofs.Common.{◌≡◌, ◌∙◌, ℕ, ◌<◌, ◌≤◌, Bool, true, false, eqb, leb, List, [], ◌∷◌, length, Some, None, get_or, if◌then◌else◌, refl, ap, arith}
+use Rattle.std.proofs.Common.{◌≡◌, ◌∙◌, ℕ, ◌<◌, ◌≤◌, Bool, true, false, eqb}
+use Rattle.std.proofs.Common.{leb, List, [], ◌∷◌, length, Some, None, get_or}
+use Rattle.std.proofs.Common.{if◌then◌else◌, refl, ap, arith}
 use Rattle.std.specs.Prelude.{is_some}
 use Rattle.std.specs.Fmt.{decimal}
 use Rattle.std.specs.List.{list_all}
@@ -12,12 +14,15 @@ use Rattle.nutwords.specs.Bytes.{is_bare}
 use Rattle.nutwords.specs.Natural.{is_digit, is_natural, up_to, read_natural}
 use Rattle.nutrequest.specs.Reply.{is_count}
 
-pub digits_all : (ds : List ℕ) → AllDigits 10 ds → (list_all is_digit ds ≡ true) × (list_all is_bare ds ≡ true)
+pub digits_all : (ds : List ℕ) → AllDigits 10 ds → (list_all is_digit ds ≡ true) ×
+    (list_all is_bare ds ≡ true)
 digits_all [] all = (refl, refl)
 digits_all (d ∷ ds) all =
     let here = digit_from_value d all.0 in
-    let rest = digits_all ds all.1 in
-    (and_from (is_digit d) (list_all is_digit ds) (grind (arith, nat_tests)) rest.0, and_from (is_bare d) (list_all is_bare ds) (grind (arith, nat_tests)) rest.1)
+    let rest = digits_all ds all.1 in (
+      and_from (is_digit d) (list_all is_digit ds) (grind (arith, nat_tests)) rest.0,
+      and_from (is_bare d) (list_all is_bare ds) (grind (arith, nat_tests)) rest.1,
+    )
 
 natural_of : (ds : List ℕ) → list_all is_digit ds ≡ true → 48 < get_or ds 0 0 → is_natural ds ≡ true
 natural_of [] all first = absurd (omega (arith, first))
@@ -33,10 +38,12 @@ written_read most n few small =
     ∙ ap (λ (b : Bool). if b then Some n else None) within
   where
     by_zero : (b : Bool) → eqb n 0 ≡ b → is_natural (decimal n) ≡ true
-    by_zero true e = let none : n ≡ 0 = grind (arith, nat_tests) in ap (λ k. is_natural (decimal k)) none ∙ ap is_natural (decimal_digit 0 (omega arith))
+    by_zero true e = let none : n ≡ 0 = grind (arith, nat_tests) in
+        ap (λ k. is_natural (decimal k)) none ∙ ap is_natural (decimal_digit 0 (omega arith))
     by_zero false e =
         let some : 0 < n = grind (arith, nat_tests) in
-        natural_of (decimal n) (digits_all (decimal n) (decimal_is_IsNumeral n (omega arith)).0.1).0 (first_decimal n some (omega arith))
+        natural_of (decimal n) (digits_all (decimal n) (decimal_is_IsNumeral n (omega arith)).0.1).0
+        (first_decimal n some (omega arith))
 
 -- a number of clients, 0 to 64, is read as one, and stands in a line as it is
 pub record IsNumber (text : List ℕ) : Type 0 where

@@ -1,5 +1,6 @@
 -- `upsc` over a run of the server.
-use Rattle.std.proofs.Common.{◌≡◌, ◌∙◌, ℕ, Bool, true, false, cond, eqb, List, [], ◌∷◌, sym, ap, subst}
+use Rattle.std.proofs.Common.{◌≡◌, ◌∙◌, ℕ, Bool, true, false, cond, eqb, List, []}
+use Rattle.std.proofs.Common.{◌∷◌, sym, ap, subst}
 use Rattle.std.specs.Prelude.{codes, nat_eq}
 use Rattle.std.specs.List.{starts_with}
 use Rattle.nutcore.specs.declared.event.Event.{Event}
@@ -20,18 +21,25 @@ first_among : (c : ℕ) (xs ys : List Execution) (x : Execution) → of_client c
 first_among c [] ys x e = cc e
 first_among c (z ∷ zs) ys x e = by_own (eqb (client_of z) c) e (λ k. first_among c zs ys x k)
   where
-    by_own : (b : Bool) → cond b (z ∷ of_client c zs) (of_client c zs) ≡ x ∷ ys → (of_client c zs ≡ x ∷ ys → IsAmong x zs) → IsAmong x (z ∷ zs)
+    by_own : (b : Bool) → cond b (z ∷ of_client c zs) (of_client c zs) ≡ x ∷ ys →
+        (of_client c zs ≡ x ∷ ys → IsAmong x zs) → IsAmong x (z ∷ zs)
     by_own true k later = let same : z ≡ x = cc k in ([], zs, ap (λ (w : Execution). w ∷ zs) same)
-    by_own false k later = let (before, after, is) = later k in (z ∷ before, after, ap (λ (ws : List Execution). z ∷ ws) is)
+    by_own false k later = let (before, after, is) = later k in
+        (z ∷ before, after, ap (λ (ws : List Execution). z ∷ ws) is)
 
 module _ (opening : ANewServerIsSound) (lawful : ASoundServerIsLawful) (one : OneLineIsAnswered) where
-  answered : (old : ServerState) (events : List Event) (outcomes : List Outcome) (c : ℕ) (line : List ℕ) (request : Request) → IsServed old events outcomes c line request → WasAnswered c old events outcomes line
+  answered : (old : ServerState) (events : List Event) (outcomes : List Outcome) (c : ℕ)
+      (line : List ℕ) (request : Request) → IsServed old events outcomes c line request →
+      WasAnswered c old events outcomes line
   answered old events outcomes c line request h =
       let n = h.begins in
-      let sound : IsSound old = subst IsSound (sym n.is) (opening n.list n.users n.descriptions n.max_age n.is_list n.are_lawful n.is_max_age) in
-      one old h.new events outcomes c line (lawful old sound) (ap (session c) n.is) h.run h.asks h.one h.going h.done h.taken_all
+      let sound : IsSound old = subst IsSound (sym n.is)
+      (opening n.list n.users n.descriptions n.max_age n.is_list n.are_lawful n.is_max_age) in
+      one old h.new events outcomes c line (lawful old sound) (ap (session c) n.is) h.run h.asks
+      h.one h.going h.done h.taken_all
 
-  is_answered : (old : ServerState) (events : List Event) (outcomes : List Outcome) (c : ℕ) (line : List ℕ) (request : Request) (h : IsServed old events outcomes c line request)
+  is_answered : (old : ServerState) (events : List Event) (outcomes : List Outcome) (c : ℕ)
+      (line : List ℕ) (request : Request) (h : IsServed old events outcomes c line request)
       (w : WasAnswered c old events outcomes line) → IsAnswered old events outcomes w.server c line request
   is_answered old events outcomes c line request h w = record {
     new = h.new;
@@ -46,8 +54,20 @@ module _ (opening : ANewServerIsSound) (lawful : ASoundServerIsLawful) (one : On
   prints_taken last all_last = record {
     variable = λ old events outcomes c line ups name n m h.
         let w = answered old events outcomes c line (requests.GetVar ups name) h in
-        record { server = w.server; took = w.took; holds = last old events outcomes w.server c line ups name n m (is_answered old events outcomes c line (requests.GetVar ups name) h w) };
+        record {
+          server = w.server;
+          took = w.took;
+          holds =
+              last old events outcomes w.server c line ups name n m
+              (is_answered old events outcomes c line (requests.GetVar ups name) h w);
+        };
     variables = λ old events outcomes c line ups n h.
         let w = answered old events outcomes c line (requests.List (queries.Var ups)) h in
-        record { server = w.server; took = w.took; holds = all_last old events outcomes w.server c line ups n (is_answered old events outcomes c line (requests.List (queries.Var ups)) h w) };
+        record {
+          server = w.server;
+          took = w.took;
+          holds =
+              all_last old events outcomes w.server c line ups n
+              (is_answered old events outcomes c line (requests.List (queries.Var ups)) h w);
+        };
   }

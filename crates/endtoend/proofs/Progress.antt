@@ -1,5 +1,7 @@
 -- How far a tracked order has come, as the server answers it and as a client prints it.
-use Rattle.std.proofs.Common.{◌≡◌, ◌∙◌, ℕ, ◌^◌, ◌<◌, ◌≤◌, Bool, true, false, eqb, ltb, List, [], ◌∷◌, ◌++◌, length, append-nil, Option, Some, None, Ok, if◌then◌else◌, refl, ap, subst, arith}
+use Rattle.std.proofs.Common.{◌≡◌, ◌∙◌, ℕ, ◌^◌, ◌<◌, ◌≤◌, Bool, true}
+use Rattle.std.proofs.Common.{false, eqb, ltb, List, [], ◌∷◌, ◌++◌, length, append-nil}
+use Rattle.std.proofs.Common.{Option, Some, None, Ok, if◌then◌else◌, refl, ap, subst, arith}
 use Rattle.std.specs.Prelude.{codes, map, option_map, slice_get, ◌==◌}
 use Rattle.std.specs.Fmt.{decimal}
 use Rattle.std.specs.List.{find}
@@ -33,7 +35,8 @@ use Rattle.nutcore.specs.TrackedRuns.{acts, WhatIsTrackedComesOfTheActs}
 use Rattle.nutcore.specs.Reply.{text_to}
 use Rattle.nutcore.specs.Reply as server
 use Rattle.nutrequest.specs.declared.request.Request.TheVariants as requests
-use Rattle.nutrequest.specs.Reply.{Reply, Whole, reply, after_first, first_or, refusal_of, one_item, is_that, is_some_number, progress_in}
+use Rattle.nutrequest.specs.Reply.{Reply, Whole, reply, after_first, first_or, refusal_of, one_item}
+use Rattle.nutrequest.specs.Reply.{is_that, is_some_number, progress_in}
 use Rattle.nutrequest.specs.Reply as client
 use Rattle.nutclient.specs.Requests.{reply_behind}
 use Rattle.nutclient.specs.Printed.{Prints, printed, printed_of}
@@ -56,11 +59,16 @@ get_tracking_read id small line e =
     cc (sent_as (requests.GetTracking id) words written line e, written_is_read id small)
 
 -- what the server answers
-answered_by : (s : ServerState) (c id : ℕ) (line : List ℕ) (o : Option Progress) → read_command line ≡ Ok (Some (commands.GetProgress (Some id))) → progress_of id s.tracking ≡ o
-    → server.reply s c line ≡ text_of_answer (ok_or (option_map (λ (progress : Progress). (id, progress)) o) InvalidArgument >>= (λ (p : ℕ × Progress). in_one_line (codes "TRACKING" ∷ id_text p.0 ∷ progress_words p.1)))
+answered_by : (s : ServerState) (c id : ℕ) (line : List ℕ) (o : Option Progress) →
+    read_command line ≡ Ok (Some (commands.GetProgress (Some id))) → progress_of id s.tracking ≡ o
+    → server.reply s c line ≡ text_of_answer
+    (ok_or (option_map (λ (progress : Progress). (id, progress)) o) InvalidArgument >>=
+    (λ (p : ℕ × Progress). in_one_line (codes "TRACKING" ∷ id_text p.0 ∷ progress_words p.1)))
 answered_by s c id line o read is =
     ap (text_to s c) read
-    ∙ ap (λ (o : Option Progress). text_of_answer (ok_or (option_map (λ (progress : Progress). (id, progress)) o) InvalidArgument >>= (λ (p : ℕ × Progress). in_one_line (codes "TRACKING" ∷ id_text p.0 ∷ progress_words p.1)))) is
+    ∙ ap (λ (o : Option Progress). text_of_answer
+    (ok_or (option_map (λ (progress : Progress). (id, progress)) o) InvalidArgument >>=
+    (λ (p : ℕ × Progress). in_one_line (codes "TRACKING" ∷ id_text p.0 ∷ progress_words p.1)))) is
 
 number_read : (n : ℕ) → 0 < n → n ≤ 1000000000 → is_some_number (read_natural DONE_LIMIT (decimal n)) ≡ true
 number_read n some few =
@@ -72,11 +80,14 @@ abbrev told_text : Progress → List ℕ
 told_text Pending = codes "PENDING"
 told_text (Done number) = if number == 0 then codes "SUCCESS" else codes "FAILED " ++ decimal number
 
-words_told : (progress : Progress) → IsLawfulProgress progress → progress_in (progress_words progress) ≡ Some (told_text progress)
+words_told : (progress : Progress) → IsLawfulProgress progress →
+    progress_in (progress_words progress) ≡ Some (told_text progress)
 words_told Pending lawful = refl
 words_told (Done n) lawful = by_zero (eqb n 0) refl
   where
-    by_zero : (b : Bool) → eqb n 0 ≡ b → progress_in (if b then codes "SUCCESS" ∷ [] else codes "FAILED" ∷ decimal n ∷ []) ≡ Some (if b then codes "SUCCESS" else codes "FAILED " ++ decimal n)
+    by_zero : (b : Bool) → eqb n 0 ≡ b →
+        progress_in (if b then codes "SUCCESS" ∷ [] else codes "FAILED" ∷ decimal n ∷ []) ≡
+        Some (if b then codes "SUCCESS" else codes "FAILED " ++ decimal n)
     by_zero true e = refl
     by_zero false e =
         let some : 0 < n = grind (arith, nat_tests) in
@@ -85,21 +96,28 @@ words_told (Done n) lawful = by_zero (eqb n 0) refl
 abbrev all_words : ℕ → Progress → List (List ℕ)
 all_words id progress = codes "TRACKING" ∷ id_text id ∷ progress_words progress
 
-progress_told : (id : ℕ) (progress : Progress) → id < 2 ^ 128 → IsLawfulProgress progress → client.progress_of id (id_text id ∷ progress_words progress) ≡ Some (told_text progress)
+progress_told : (id : ℕ) (progress : Progress) → id < 2 ^ 128 → IsLawfulProgress progress →
+    client.progress_of id (id_text id ∷ progress_words progress) ≡ Some (told_text progress)
 progress_told id progress small lawful =
-    ap (λ (o : Option ℕ). if is_that id o then progress_in (progress_words progress) else None) (written_is_read id small)
+    ap (λ (o : Option ℕ). if is_that id o then progress_in (progress_words progress) else None)
+    (written_is_read id small)
     ∙ ap (λ (b : Bool). if b then progress_in (progress_words progress) else None) (eq-eqb id id refl)
     ∙ words_told progress lawful
 
 -- they are written as they are
-words_written : (id : ℕ) (progress : Progress) → IsLawfulProgress progress → IsWrittenLine (all_words id progress) (all_words id progress)
+words_written : (id : ℕ) (progress : Progress) → IsLawfulProgress progress →
+    IsWrittenLine (all_words id progress) (all_words id progress)
 words_written id Pending lawful = record {
   written = (as_it_is (omega arith) refl, (id_written id, (as_it_is (omega arith) refl, tt)));
   fits = omega (arith, ids_are_plain.long id, line_of_three (codes "TRACKING") (id_text id) (codes "PENDING"));
 }
 words_written id (Done n) lawful = by_zero (eqb n 0)
   where
-    by_zero : (b : Bool) → IsWrittenLine (codes "TRACKING" ∷ id_text id ∷ (if b then codes "SUCCESS" ∷ [] else codes "FAILED" ∷ decimal n ∷ [])) (codes "TRACKING" ∷ id_text id ∷ (if b then codes "SUCCESS" ∷ [] else codes "FAILED" ∷ decimal n ∷ []))
+    by_zero : (b : Bool) → IsWrittenLine
+        (codes "TRACKING" ∷ id_text id ∷
+        (if b then codes "SUCCESS" ∷ [] else codes "FAILED" ∷ decimal n ∷ []))
+        (codes "TRACKING" ∷ id_text id ∷
+        (if b then codes "SUCCESS" ∷ [] else codes "FAILED" ∷ decimal n ∷ []))
     by_zero true = record {
       written = (as_it_is (omega arith) refl, (id_written id, (as_it_is (omega arith) refl, tt)));
       fits = omega (arith, ids_are_plain.long id, line_of_three (codes "TRACKING") (id_text id) (codes "SUCCESS"));
@@ -108,8 +126,22 @@ words_written id (Done n) lawful = by_zero (eqb n 0)
         let numeral = decimal_is_IsNumeral n (omega arith) in
         let short : length (decimal n) ≤ 10 = length-decimal-le 10 n (omega arith) (omega arith) (omega arith) in
         record {
-          written = (as_it_is (omega arith) refl, (id_written id, (as_it_is (omega arith) refl, (as_it_is numeral.0.0 (digits_all (decimal n) numeral.0.1).1, tt))));
-          fits = omega (arith, ids_are_plain.long id, short, line_of_four (codes "TRACKING") (id_text id) (codes "FAILED") (decimal n));
+          written = (
+            as_it_is (omega arith) refl,
+            (
+              id_written id,
+              (
+                as_it_is (omega arith) refl,
+                (as_it_is numeral.0.0 (digits_all (decimal n) numeral.0.1).1, tt),
+              ),
+            ),
+          );
+          fits = omega (
+            arith,
+            ids_are_plain.long id,
+            short,
+            line_of_four (codes "TRACKING") (id_text id) (codes "FAILED") (decimal n),
+          );
         }
 
 -- and printed as they are
@@ -117,19 +149,27 @@ printed_text : (progress : Progress) → (told_text progress ++ 10 ∷ []) ++ []
 printed_text Pending = refl
 printed_text (Done n) = by_zero (eqb n 0)
   where
-    by_zero : (b : Bool) → ((if b then codes "SUCCESS" else codes "FAILED " ++ decimal n) ++ 10 ∷ []) ++ [] ≡ line_of (if b then codes "SUCCESS" ∷ [] else codes "FAILED" ∷ decimal n ∷ [])
+    by_zero : (b : Bool) → ((if b then codes "SUCCESS" else codes "FAILED " ++ decimal n) ++
+        10 ∷ []) ++ [] ≡ line_of (if b then codes "SUCCESS" ∷ [] else codes "FAILED" ∷ decimal n ∷ [])
     by_zero true = refl
     by_zero false = append-nil (codes "FAILED " ++ (decimal n ++ 10 ∷ []))
 
 -- a number that is answered is lawful
-lawful_found : (id : ℕ) (progress : Progress) (orders : List TrackedOrder) → HaveLawfulNumbers orders → option_map (λ (order : TrackedOrder). order.progress) (find (has_id id) orders) ≡ Some progress → IsLawfulProgress progress
+lawful_found : (id : ℕ) (progress : Progress) (orders : List TrackedOrder) →
+    HaveLawfulNumbers orders → option_map (λ (order : TrackedOrder). order.progress)
+    (find (has_id id) orders) ≡ Some progress → IsLawfulProgress progress
 lawful_found id progress [] all e = cc e
 lawful_found id progress (order ∷ orders) all e =
-    by_id (has_id id order) e (λ k. lawful_found id progress orders (All-tail (λ (order : TrackedOrder). IsLawfulProgress order.progress) order orders all) k)
+    by_id (has_id id order) e (λ k. lawful_found id progress orders
+    (All-tail (λ (order : TrackedOrder). IsLawfulProgress order.progress) order orders all) k)
   where
-    by_id : (b : Bool) → option_map (λ (order : TrackedOrder). order.progress) (if b then Some order else find (has_id id) orders) ≡ Some progress
-        → (option_map (λ (order : TrackedOrder). order.progress) (find (has_id id) orders) ≡ Some progress → IsLawfulProgress progress) → IsLawfulProgress progress
-    by_id true k later = let same : order.progress ≡ progress = cc k in subst IsLawfulProgress same (All-head (λ (order : TrackedOrder). IsLawfulProgress order.progress) order orders all)
+    by_id : (b : Bool) → option_map (λ (order : TrackedOrder). order.progress)
+        (if b then Some order else find (has_id id) orders) ≡ Some progress
+        → (option_map (λ (order : TrackedOrder). order.progress) (find (has_id id) orders) ≡
+        Some progress → IsLawfulProgress progress) → IsLawfulProgress progress
+    by_id true k later = let same : order.progress ≡ progress = cc k in
+        subst IsLawfulProgress same (All-head
+        (λ (order : TrackedOrder). IsLawfulProgress order.progress) order orders all)
     by_id false k later = later k
 
 pub prints_progress : UpscPrintsHowFarAnOrderHasCome
@@ -139,9 +179,11 @@ prints_progress = record {
       let mine = lawful_found id progress s.tracking.orders lawful is in
       let answer = answered_by s c id line (Some progress) (get_tracking_read id small line e) is in
       let words = all_words id progress in
-      let whole : reply (requests.GetTracking id) (line_of words ++ more) ≡ Whole (one_item (told_text progress)) more =
+      let whole : reply (requests.GetTracking id) (line_of words ++ more) ≡
+      Whole (one_item (told_text progress)) more =
       first_read (requests.GetTracking id) words words more (words_written id progress mine)
-      ∙ ap (λ (o : Option (List ℕ)). after_first (requests.GetTracking id) (first_or o (refusal_of words)) more) (progress_told id progress small mine) in
+      ∙ ap (λ (o : Option (List ℕ)). after_first (requests.GetTracking id)
+      (first_or o (refusal_of words)) more) (progress_told id progress small mine) in
       ap (λ (t : List ℕ). printed (requests.GetTracking id ∷ []) forms.Value (t ++ more)) answer
       ∙ ap (λ (r : Reply). printed_of forms.Value (reply_behind r (λ items rest. Whole items rest))) whole
       ∙ ap Prints (printed_text progress);
@@ -149,21 +191,29 @@ prints_progress = record {
       let small : id < 2 ^ 128 = ((read_is_written text id).0 read).0 in
       let answer = answered_by s c id line None (get_tracking_read id small line e) is in
       ap (λ (t : List ℕ). printed (requests.GetTracking id ∷ []) forms.Value (t ++ more)) answer
-      ∙ ap (λ (r : Reply). printed_of forms.Value (reply_behind r (λ items rest. Whole items rest))) (refused_read (requests.GetTracking id) InvalidArgument more);
+      ∙ ap (λ (r : Reply). printed_of forms.Value
+      (reply_behind r (λ items rest. Whole items rest))) (refused_read (requests.GetTracking id) InvalidArgument more);
 }
 
 -- the next id is one of 128 bits
 next_small : (t : TrackingState) (id : ℕ) → IsSoundTracking t → next_id t ≡ Some id → id < 2 ^ 128
 next_small t id sound next = by t.ids next (λ large. sound.small id large)
   where
-    by : (ids : List ℕ) → slice_get ids 0 ≡ Some id → (2 ^ 128 ≤ id → times id (ids ++ map (λ (order : TrackedOrder). order.id) t.orders) ≡ 0) → id < 2 ^ 128
+    by : (ids : List ℕ) → slice_get ids 0 ≡ Some id →
+        (2 ^ 128 ≤ id → times id (ids ++ map (λ (order : TrackedOrder). order.id) t.orders) ≡ 0) → id < 2 ^ 128
     by [] e none = cc e
     by (i ∷ ids) e none = let same : i ≡ id = cc e in grind (arith, nat_tests, common_steps)
 
-pub prints_report : WhatIsTrackedComesOfTheActs → EveryRunKeepsTheServerSound → UpscPrintsHowFarAnOrderHasCome → UpscPrintsWhatItsDriverReported
-prints_report tracked keeps how_far s left new c line ups text bytes events outcomes client asks more sound o sound_left is run few sent =
+pub prints_report : WhatIsTrackedComesOfTheActs → EveryRunKeepsTheServerSound →
+    UpscPrintsHowFarAnOrderHasCome → UpscPrintsWhatItsDriverReported
+prints_report tracked keeps how_far s left new c line ups text bytes events outcomes client asks
+    more sound o sound_left is run few sent =
     let begun : left.tracking ≡ with_order o.known.id.place s.tracking = is ∙ o.kept in
     let done = acts left events outcomes in
-    how_far.known new client o.id (id_text o.id) asks (first_report o.known.id.place o.id done) more (written_is_read o.id (next_small s.tracking o.id sound.tracking o.first)) (keeps left new events outcomes run sound_left).numbers
-    (ap (progress_of o.id) (tracked left new events outcomes run ∙ ap (λ (t : TrackingState). after_acts t done) begun)
-    ∙ its_driver_settles_it_once s.tracking o.known.id.place o.id done sound.tracking o.first (subst (λ (t : TrackingState). length (given t done) < ORDER_LIMIT) begun few)) sent
+    how_far.known new client o.id (id_text o.id) asks (first_report o.known.id.place o.id done) more
+    (written_is_read o.id (next_small s.tracking o.id sound.tracking o.first))
+    (keeps left new events outcomes run sound_left).numbers
+    (ap (progress_of o.id) (tracked left new events outcomes run ∙
+    ap (λ (t : TrackingState). after_acts t done) begun)
+    ∙ its_driver_settles_it_once s.tracking o.known.id.place o.id done sound.tracking o.first
+    (subst (λ (t : TrackingState). length (given t done) < ORDER_LIMIT) begun few)) sent

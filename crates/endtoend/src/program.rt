@@ -10,8 +10,9 @@ use nutclient::{Job, run};
 use nutio::{Sink, Source};
 use nutrequest::{ClientFault, Session};
 
-/// Does the job by `run`, as the programs do into a pipe or a file. Where the session's reader gives
-/// what the server answers, in whatever pieces, it prints what the server holds, and nothing else.
+/// Does the job by `run`, as the programs do into a pipe or a file. Where the session's reader
+/// gives what the server answers, in whatever pieces, it prints what the server holds, and nothing
+/// else.
 pub fn print_what_is_held<R: Source, W: Sink, O: Sink>(
     session: &mut Session<R, W>,
     out: &mut O,

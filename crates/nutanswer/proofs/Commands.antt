@@ -1,5 +1,7 @@
--- What is proved of each command, a case each: what its row says, and that the data it answers are fresh.
-use Rattle.std.proofs.Common.{◌≡◌, ◌≤◌, ℕ, true, List, [], ◌∷◌, Option, Some, None, Result, Ok, Err, refl, ap, ◌&&◌, length, inl, inr, arith}
+-- What is proved of each command, a case each: what its row says, and that the data it answers are
+-- fresh.
+use Rattle.std.proofs.Common.{◌≡◌, ◌≤◌, ℕ, true, List, [], ◌∷◌, Option, Some}
+use Rattle.std.proofs.Common.{None, Result, Ok, Err, refl, ap, ◌&&◌, length, inl, inr, arith}
 use Rattle.std.specs.Prelude.{codes, IsTrue}
 use Rattle.std.proofs.lemmas.Bool.{leb-true}
 use Rattle.nutwords.specs.Frame.{line_of}
@@ -9,18 +11,38 @@ use Rattle.nutdriver.specs.Tree.{variable_at, has_command}
 use Rattle.nutlisting.specs.Items.{is_rw, ups_item, variable_item, command_item, enum_item, range_item, client_item}
 use Rattle.nutusers.specs.declared.rights.Right.TheVariants as rights
 use Rattle.nutparse.specs.declared.command.Command.{Command}
-use Rattle.nutparse.specs.declared.command.Command.TheVariants.{Username, Password, Login, Logout, Primary, Fsd, SetVar, InstCmd, GetVar, GetType, GetDesc, GetCmdDesc, GetUpsDesc, GetNumLogins, GetNumAttach, ListUps, ListVar, ListRw, ListCmd, ListEnum, ListRange, ListClient, Help, Ver, NetVer, ProtVer, StartTls, SetTracking, GetTracking, GetProgress}
+use Rattle.nutparse.specs.declared.command.Command.TheVariants.{Username, Password, Login, Logout}
+use Rattle.nutparse.specs.declared.command.Command.TheVariants.{Primary, Fsd, SetVar, InstCmd}
+use Rattle.nutparse.specs.declared.command.Command.TheVariants.{GetVar, GetType, GetDesc}
+use Rattle.nutparse.specs.declared.command.Command.TheVariants.{GetCmdDesc, GetUpsDesc}
+use Rattle.nutparse.specs.declared.command.Command.TheVariants.{GetNumLogins, GetNumAttach, ListUps}
+use Rattle.nutparse.specs.declared.command.Command.TheVariants.{ListVar, ListRw, ListCmd, ListEnum}
+use Rattle.nutparse.specs.declared.command.Command.TheVariants.{ListRange, ListClient, Help, Ver}
+use Rattle.nutparse.specs.declared.command.Command.TheVariants.{NetVer, ProtVer, StartTls}
+use Rattle.nutparse.specs.declared.command.Command.TheVariants.{SetTracking, GetTracking}
+use Rattle.nutparse.specs.declared.command.Command.TheVariants.{GetProgress}
 use Rattle.nutparse.specs.declared.err_word.ErrWord.{ErrWord}
-use Rattle.nutparse.specs.declared.err_word.ErrWord.TheVariants.{AlreadySetUsername, AlreadySetPassword, AlreadyLoggedIn, VarNotSupported, CmdNotSupported, Readonly, TooLong, InvalidValue, SetFailed, InstcmdFailed}
+use Rattle.nutparse.specs.declared.err_word.ErrWord.TheVariants.{AlreadySetUsername}
+use Rattle.nutparse.specs.declared.err_word.ErrWord.TheVariants.{AlreadySetPassword}
+use Rattle.nutparse.specs.declared.err_word.ErrWord.TheVariants.{AlreadyLoggedIn, VarNotSupported}
+use Rattle.nutparse.specs.declared.err_word.ErrWord.TheVariants.{CmdNotSupported, Readonly, TooLong}
+use Rattle.nutparse.specs.declared.err_word.ErrWord.TheVariants.{InvalidValue, SetFailed}
+use Rattle.nutparse.specs.declared.err_word.ErrWord.TheVariants.{InstcmdFailed}
 use Rattle.nutanswer.specs.declared.reply.Change.{Change}
 use Rattle.nutanswer.specs.declared.reply.Change.TheVariants as changes
 use Rattle.nutparse.specs.ErrWord.{error_line}
 use Rattle.nutanswer.specs.View.{Seen, AskerSeen, usable, readiness}
-use Rattle.nutanswer.specs.Checks.{◌>>=◌, ◌>>◌, KnownUps, ups_named, user, var_not_lawful, cmd_not_lawful, already_set_username, already_set_password, already_logged_in, readonly, too_long_of_command, invalid_value, no_id, set_failed, instcmd_failed, unknown_id, cmd_not_supported}
-use Rattle.nutanswer.specs.Orders.{is_short_enough, is_listed, is_in_ranges, right_to, set_line, instcmd_line, order, ok_words, instcmd_right}
+use Rattle.nutanswer.specs.Checks.{◌>>=◌, ◌>>◌, KnownUps, ups_named, user, var_not_lawful}
+use Rattle.nutanswer.specs.Checks.{cmd_not_lawful, already_set_username, already_set_password}
+use Rattle.nutanswer.specs.Checks.{already_logged_in, readonly, too_long_of_command, invalid_value}
+use Rattle.nutanswer.specs.Checks.{no_id, set_failed, instcmd_failed, unknown_id, cmd_not_supported}
+use Rattle.nutanswer.specs.Orders.{is_short_enough, is_listed, is_in_ranges, right_to, set_line}
+use Rattle.nutanswer.specs.Orders.{instcmd_line, order, ok_words, instcmd_right}
 use Rattle.nutanswer.specs.Answer.{Answer, one_line, ok, description_at, answer_to, change_of_answer, text_of_answer}
-use Rattle.nutanswer.specs.Rows.{HasRight, value_given, IsIdOfOrder, EachChangeComesOfItsCommand, EachOrderAnsweredOkIsGiven}
-use Rattle.nutanswer.specs.Laws.{OnlyOkChanges, RefusedLinesChangeNothing, EachAnswerIsALineOrAListing, WhatIsAnsweredIsFresh}
+use Rattle.nutanswer.specs.Rows.{HasRight, value_given, IsIdOfOrder, EachChangeComesOfItsCommand}
+use Rattle.nutanswer.specs.Rows.{EachOrderAnsweredOkIsGiven}
+use Rattle.nutanswer.specs.Laws.{OnlyOkChanges, RefusedLinesChangeNothing}
+use Rattle.nutanswer.specs.Laws.{EachAnswerIsALineOrAListing, WhatIsAnsweredIsFresh}
 use Rattle.nutwords.specs.Reading.{is_value, is_name, is_address}
 use Rattle.std.proofs.lemmas.List.Elements.{All-filter}
 use Rattle.nutdriver.specs.Sound.{IsSoundRange}
@@ -35,46 +57,78 @@ use Rattle.nutlisting.specs.Lawful.{IsSoundEntry}
 use Rattle.nutlisting.proofs.PublicLaws.{ids_are_lawful, texts_are_lawful}
 use Rattle.nutlisting.specs.declared.lines.TheConstants.{SHOWN_LIMIT}
 use Rattle.nutwords.specs.declared.limits.TheConstants.{VALUE_LIMIT}
-use Rattle.nutanswer.proofs.Shapes.{listing_shaped, items_of, line_shaped, ok_shaped, on_or_off_plain, progress_found, entry_item, command_inside, enum_inside, range_inside, ups_inside, client_inside, text_lawful, name_found, lawful_known, description_lawful, lawful_found, variables_of, count_plain, lawful_clients}
-use Rattle.nutanswer.proofs.TableRows.{IsRow, refused, tells, lists, lists_clients, does, orders, held, found, of_ups, of_usable, of_variable}
+use Rattle.nutanswer.proofs.Shapes.{listing_shaped, items_of, line_shaped, ok_shaped}
+use Rattle.nutanswer.proofs.Shapes.{on_or_off_plain, progress_found, entry_item, command_inside}
+use Rattle.nutanswer.proofs.Shapes.{enum_inside, range_inside, ups_inside, client_inside}
+use Rattle.nutanswer.proofs.Shapes.{text_lawful, name_found, lawful_known, description_lawful}
+use Rattle.nutanswer.proofs.Shapes.{lawful_found, variables_of, count_plain, lawful_clients}
+use Rattle.nutanswer.proofs.TableRows.{IsRow, refused, tells, lists, lists_clients, does, orders}
+use Rattle.nutanswer.proofs.TableRows.{held, found, of_ups, of_usable, of_variable}
 
--- SET VAR and INSTCMD, where their checks hold: what holds of each refusal, and of what the checks let through, holds of the row
+-- SET VAR and INSTCMD, where their checks hold: what holds of each refusal, and of what the checks
+-- let through, holds of the row
 module _ (P : Result Answer ErrWord → Type 0) (no : (word : ErrWord) → P (Err word)) where
   -- SET VAR, where its checks hold
-  abbrev SetGoes : Seen → AskerSeen → Option (List ℕ) → List ℕ → List ℕ → KnownUps → VariableState → Option ℕ → Type 0
+  abbrev SetGoes : Seen → AskerSeen → Option (List ℕ) → List ℕ → List ℕ →
+      KnownUps → VariableState → Option ℕ → Type 0
   SetGoes s asker ups name value u x id =
-      HasRight s asker rights.Set → ups_named s ups ≡ Some u → readiness s.moment s.max_age u.state.report ≡ usable
+      HasRight s asker rights.Set → ups_named s ups ≡ Some u →
+      readiness s.moment s.max_age u.state.report ≡ usable
       → variable_at u.state.report.tree name ≡ Some x → x.flags.rw ≡ true → is_short_enough x value ≡ true
-      → (is_listed x.enum_values value && is_in_ranges x.ranges value) ≡ true → IsIdOfOrder s asker id → length (set_line name value id) ≤ u.state.free
+      → (is_listed x.enum_values value && is_in_ranges x.ranges value) ≡ true →
+      IsIdOfOrder s asker id → length (set_line name value id) ≤ u.state.free
       → P (Ok (one_line (ok_words id) (order u.id (set_line name value id) id)))
 
   set_row : (s : Seen) (asker : AskerSeen) (ups : Option (List ℕ)) (name value : List ℕ)
-      → ((u : KnownUps) (x : VariableState) (id : Option ℕ) → SetGoes s asker ups name value u x id) → P (answer_to s asker (SetVar ups (Some name) (Some value)))
+      → ((u : KnownUps) (x : VariableState) (id : Option ℕ) →
+      SetGoes s asker ups name value u x id) → P (answer_to s asker (SetVar ups (Some name) (Some value)))
   set_row s asker ups name value goes =
-      checks.held P no (user s asker rights.Set) _ (λ right. checks.of_variable P no s ups name _ (λ u x named going there.
-      checks.held P no (readonly x) _ (λ writable. checks.tested P no (is_short_enough x value) TooLong value _ (λ short. checks.held P no (invalid_value x value) _ (λ may_be.
-      checks.with_id P no s asker SetFailed _ (λ id id_is. checks.held P no (set_failed u (set_line name value id)) _ (λ fits.
-      goes u x id (has_right s asker rights.Set right) named going there (unless_ok x.flags.rw Readonly writable) short (unless_ok _ InvalidValue may_be) id_is (leb-true _ _ (unless_ok _ SetFailed fits)))))))))
+      checks.held P no (user s asker rights.Set) _
+      (λ right. checks.of_variable P no s ups name _ (λ u x named going there.
+      checks.held P no (readonly x) _
+      (λ writable. checks.tested P no (is_short_enough x value) TooLong value _
+      (λ short. checks.held P no (invalid_value x value) _ (λ may_be.
+      checks.with_id P no s asker SetFailed _
+      (λ id id_is. checks.held P no (set_failed u (set_line name value id)) _ (λ fits.
+      goes u x id (has_right s asker rights.Set right) named going there
+      (unless_ok x.flags.rw Readonly writable) short (unless_ok _ InvalidValue may_be) id_is
+      (leb-true _ _ (unless_ok _ SetFailed fits)))))))))
 
   -- INSTCMD
-  abbrev CommandGoes : Seen → AskerSeen → Option (List ℕ) → List ℕ → Option (List ℕ) → KnownUps → Option ℕ → Type 0
+  abbrev CommandGoes : Seen → AskerSeen → Option (List ℕ) → List ℕ →
+      Option (List ℕ) → KnownUps → Option ℕ → Type 0
   CommandGoes s asker ups name value u id =
-      HasRight s asker (right_to name) → ups_named s ups ≡ Some u → readiness s.moment s.max_age u.state.report ≡ usable
-      → has_command u.state.report.tree name ≡ true → IsIdOfOrder s asker id → length (instcmd_line name value id) ≤ u.state.free
+      HasRight s asker (right_to name) → ups_named s ups ≡ Some u →
+      readiness s.moment s.max_age u.state.report ≡ usable
+      → has_command u.state.report.tree name ≡ true → IsIdOfOrder s asker id →
+      length (instcmd_line name value id) ≤ u.state.free
       → P (Ok (one_line (ok_words id) (order u.id (instcmd_line name value id) id)))
 
   command_row : (s : Seen) (asker : AskerSeen) (ups : Option (List ℕ)) (name : List ℕ) (value : Option (List ℕ))
-      → ((u : KnownUps) (id : Option ℕ) → CommandGoes s asker ups name value u id) → P (answer_to s asker (InstCmd ups (Some name) (value_given value)))
+      → ((u : KnownUps) (id : Option ℕ) → CommandGoes s asker ups name value u id) →
+      P (answer_to s asker (InstCmd ups (Some name) (value_given value)))
   command_row s asker ups name value goes =
       checks.held P no (user s asker (right_to name)) _ (λ right. checks.of_usable P no s ups _ (λ u named going.
-      checks.tested P no (has_command u.state.report.tree name) CmdNotSupported name _ (λ there. by_value value u (λ id id_is fits. goes u id (has_right s asker (right_to name) right) named going there id_is fits))))
+      checks.tested P no (has_command u.state.report.tree name) CmdNotSupported name _
+      (λ there. by_value value u (λ id id_is fits. goes u id
+      (has_right s asker (right_to name) right) named going there id_is fits))))
     where
-      by_value : (value : Option (List ℕ)) (u : KnownUps) → ((id : Option ℕ) → IsIdOfOrder s asker id → length (instcmd_line name value id) ≤ u.state.free → P (Ok (one_line (ok_words id) (order u.id (instcmd_line name value id) id))))
-          → P (too_long_of_command (value_given value) >>= (λ v. no_id s asker InstcmdFailed >>= (λ id. instcmd_failed u (instcmd_line name v id) >> Ok (one_line (ok_words id) (order u.id (instcmd_line name v id) id)))))
-      by_value None u h = checks.with_id P no s asker InstcmdFailed _ (λ id id_is. checks.held P no (instcmd_failed u (instcmd_line name None id)) _ (λ fits. h id id_is (leb-true _ _ (unless_ok _ InstcmdFailed fits))))
-      by_value (Some value) u h = checks.with_id P no s asker InstcmdFailed _ (λ id id_is. checks.held P no (instcmd_failed u (instcmd_line name (Some value) id)) _ (λ fits. h id id_is (leb-true _ _ (unless_ok _ InstcmdFailed fits))))
+      by_value : (value : Option (List ℕ)) (u : KnownUps) →
+          ((id : Option ℕ) → IsIdOfOrder s asker id → length (instcmd_line name value id) ≤
+          u.state.free → P (Ok (one_line (ok_words id) (order u.id (instcmd_line name value id) id))))
+          → P (too_long_of_command (value_given value) >>=
+          (λ v. no_id s asker InstcmdFailed >>=
+          (λ id. instcmd_failed u (instcmd_line name v id) >> Ok
+          (one_line (ok_words id) (order u.id (instcmd_line name v id) id)))))
+      by_value None u h = checks.with_id P no s asker InstcmdFailed _
+          (λ id id_is. checks.held P no (instcmd_failed u (instcmd_line name None id)) _
+          (λ fits. h id id_is (leb-true _ _ (unless_ok _ InstcmdFailed fits))))
+      by_value (Some value) u h = checks.with_id P no s asker InstcmdFailed _
+          (λ id id_is. checks.held P no (instcmd_failed u (instcmd_line name (Some value) id)) _
+          (λ fits. h id id_is (leb-true _ _ (unless_ok _ InstcmdFailed fits))))
 
-commanded : (s : Seen) (asker : AskerSeen) (ups : Option (List ℕ)) (name : List ℕ) (value : Option (List ℕ)) (u : KnownUps) (id : Option ℕ)
+commanded : (s : Seen) (asker : AskerSeen) (ups : Option (List ℕ)) (name : List ℕ)
+    (value : Option (List ℕ)) (u : KnownUps) (id : Option ℕ)
     → CommandGoes (IsRow s asker (InstCmd ups (Some name) (value_given value))) refused s asker ups name value u id
 commanded s asker ups name value u id right named going there id_is fits =
     orders u.id (instcmd_line name value id) id (λ e. inr (record {
@@ -92,23 +146,54 @@ commanded s asker ups name value u id right named going there id_is fits =
 module _ (s : Seen) (asker : AskerSeen) where
   pub row : (command : Command) → IsRow s asker command (answer_to s asker command)
   row (Username None) = held (already_set_username asker) (λ free. refused _)
-  row (Username (Some name)) = held (already_set_username asker) (λ free. does ok (changes.Username name) refl ok_shaped (λ e. record { is = refl; fresh = none_given asker.username AlreadySetUsername free; text = e }))
+  row (Username (Some name)) = held (already_set_username asker)
+      (λ free. does ok (changes.Username name) refl ok_shaped
+      (λ e. record { is = refl; fresh = none_given asker.username AlreadySetUsername free; text = e }))
   row (Password None) = held (already_set_password asker) (λ free. refused _)
-  row (Password (Some word)) = held (already_set_password asker) (λ free. does ok (changes.Password word) refl ok_shaped (λ e. record { is = refl; fresh = none_given asker.password AlreadySetPassword free; text = e }))
+  row (Password (Some word)) = held (already_set_password asker)
+      (λ free. does ok (changes.Password word) refl ok_shaped
+      (λ e. record { is = refl; fresh = none_given asker.password AlreadySetPassword free; text = e }))
   row (Login ups) =
-      held (user s asker rights.Login) (λ right. of_ups ups (λ u named. held (already_logged_in asker) (λ free. does ok (changes.Login u.id) refl ok_shaped (λ e. record {
-        by_right = record { ups = ups; known = u; is = refl; named = named; this = refl; has = has_right s asker rights.Login right; text = e };
+      held (user s asker rights.Login)
+      (λ right. of_ups ups (λ u named. held (already_logged_in asker)
+      (λ free. does ok (changes.Login u.id) refl ok_shaped (λ e. record {
+        by_right = record {
+          ups = ups;
+          known = u;
+          is = refl;
+          named = named;
+          this = refl;
+          has =
+              has_right s asker rights.Login right;
+          text = e;
+        };
         fresh = none_given asker.login AlreadyLoggedIn free;
       }))))
-  row Logout = does (codes "OK" ∷ codes "Goodbye" ∷ []) changes.Ending refl (line_shaped (codes "OK" ∷ codes "Goodbye" ∷ []) (refl, (refl, tt)) refl) (λ e. refl)
-  row (Primary ups) = held (user s asker rights.Primary) (λ right. of_ups ups (λ u named. tells ok refl (λ seen h. (refl, tt))))
+  row Logout = does (codes "OK" ∷ codes "Goodbye" ∷ []) changes.Ending refl
+      (line_shaped (codes "OK" ∷ codes "Goodbye" ∷ []) (refl, (refl, tt)) refl) (λ e. refl)
+  row (Primary ups) = held (user s asker rights.Primary)
+      (λ right. of_ups ups (λ u named. tells ok refl (λ seen h. (refl, tt))))
   row (Fsd ups) =
-      held (user s asker rights.Fsd) (λ right. of_ups ups (λ u named. does (codes "OK" ∷ codes "FSD-SET" ∷ []) (changes.Fsd u.id) refl (line_shaped (codes "OK" ∷ codes "FSD-SET" ∷ []) (refl, (refl, tt)) refl)
-      (λ e. record { ups = ups; known = u; is = refl; named = named; this = refl; has = has_right s asker rights.Fsd right; text = e })))
+      held (user s asker rights.Fsd) (λ right. of_ups ups
+      (λ u named. does (codes "OK" ∷ codes "FSD-SET" ∷ []) (changes.Fsd u.id) refl
+      (line_shaped (codes "OK" ∷ codes "FSD-SET" ∷ []) (refl, (refl, tt)) refl)
+      (λ e. record {
+        ups = ups;
+        known = u;
+        is = refl;
+        named = named;
+        this = refl;
+        has =
+            has_right s asker rights.Fsd right;
+        text = e;
+      })))
   row (SetVar ups None word) = held (user s asker rights.Set) (λ right. of_usable ups (λ u named. refused _))
-  row (SetVar ups (Some name) None) = held (user s asker rights.Set) (λ right. of_variable ups (Some name) (λ u v named is. held (readonly v.1) (λ writable. refused _)))
+  row (SetVar ups (Some name) None) =
+      held (user s asker rights.Set) (λ right. of_variable ups (Some name)
+      (λ u v named is. held (readonly v.1) (λ writable. refused _)))
   row (SetVar ups (Some name) (Some value)) =
-      set_row (IsRow s asker (SetVar ups (Some name) (Some value))) refused s asker ups name value (λ u x id right named going there writable short may_be id_is fits.
+      set_row (IsRow s asker (SetVar ups (Some name) (Some value))) refused s asker ups name value
+      (λ u x id right named going there writable short may_be id_is fits.
       let both = both_true _ _ may_be in
       orders u.id (set_line name value id) id (λ e. inl (record {
         name = name;
@@ -126,61 +211,119 @@ module _ (s : Seen) (asker : AskerSeen) where
         line_is = refl;
       })))
   row (InstCmd ups None word) = held (user s asker (right_to [])) (λ right. of_usable ups (λ u named. refused _))
-  row (InstCmd ups (Some name) (Some None)) = held (user s asker (right_to name)) (λ right. of_usable ups (λ u named. found (cmd_not_supported u (Some name)) (λ c is. refused _)))
-  row (InstCmd ups (Some name) None) = command_row (IsRow s asker (InstCmd ups (Some name) None)) refused s asker ups name None (commanded s asker ups name None)
-  row (InstCmd ups (Some name) (Some (Some value))) = command_row (IsRow s asker (InstCmd ups (Some name) (Some (Some value)))) refused s asker ups name (Some value) (commanded s asker ups name (Some value))
+  row (InstCmd ups (Some name) (Some None)) =
+      held (user s asker (right_to name))
+      (λ right. of_usable ups (λ u named. found (cmd_not_supported u (Some name)) (λ c is. refused _)))
+  row (InstCmd ups (Some name) None) =
+      command_row (IsRow s asker (InstCmd ups (Some name) None)) refused s asker ups name None
+      (commanded s asker ups name None)
+  row (InstCmd ups (Some name) (Some (Some value))) =
+      command_row (IsRow s asker (InstCmd ups (Some name) (Some (Some value)))) refused s asker ups
+      name (Some value) (commanded s asker ups name (Some value))
   row (SetTracking on) = does ok (changes.Tracking on) refl ok_shaped (λ e. refl)
   row (GetVar ups name) =
       of_variable ups name (λ u v named is. tells _ refl (λ seen h.
-      let f = lawful_found s seen ups name u v h named is in
-      (refl, (f.ups.name, (f.name, (quoted_plain SHOWN_LIMIT (shown u.state.fsd v.0 v.1) (texts_are_lawful.shown u.state.fsd v.0 v.1 f.entry.1.value), tt))))))
+      let f = lawful_found s seen ups name u v h named is in (
+        refl,
+        (
+          f.ups.name,
+          (
+            f.name,
+            (
+              quoted_plain SHOWN_LIMIT (shown u.state.fsd v.0 v.1)
+                  (texts_are_lawful.shown u.state.fsd v.0 v.1 f.entry.1.value),
+              tt,
+            ),
+          ),
+        ),
+      )))
   row (GetType ups name) =
       of_variable ups name (λ u v named is. tells _ refl (λ seen h.
       let f = lawful_found s seen ups name u v h named is in
       (refl, (f.ups.name, (f.name, type_plain v.1 f.entry.1.aux)))))
   row (GetDesc ups name) =
-      of_ups ups (λ u named. found (var_not_lawful name) (λ v is. tells _ refl (λ seen h.
-      (refl, ((lawful_known s seen ups u h.0 named).name, (name_found name VarNotSupported v h.1 is, (quoted_plain VALUE_LIMIT (description_of (text_at s.descriptions.vars v)) (text_lawful s.descriptions.vars v seen.descriptions.vars), tt)))))))
+      of_ups ups (λ u named. found (var_not_lawful name) (λ v is. tells _ refl (λ seen h. (
+        refl,
+        (
+          (lawful_known s seen ups u h.0 named).name,
+          (
+            name_found name VarNotSupported v h.1 is,
+            (
+              quoted_plain VALUE_LIMIT (description_of (text_at s.descriptions.vars v))
+                  (text_lawful s.descriptions.vars v seen.descriptions.vars),
+              tt,
+            ),
+          ),
+        ),
+      ))))
   row (GetCmdDesc ups name) =
-      of_ups ups (λ u named. found (cmd_not_lawful name) (λ c is. tells _ refl (λ seen h.
-      (refl, ((lawful_known s seen ups u h.0 named).name, (name_found name CmdNotSupported c h.1 is, (quoted_plain VALUE_LIMIT (description_of (text_at s.descriptions.cmds c)) (text_lawful s.descriptions.cmds c seen.descriptions.cmds), tt)))))))
+      of_ups ups (λ u named. found (cmd_not_lawful name) (λ c is. tells _ refl (λ seen h. (
+        refl,
+        (
+          (lawful_known s seen ups u h.0 named).name,
+          (
+            name_found name CmdNotSupported c h.1 is,
+            (
+              quoted_plain VALUE_LIMIT (description_of (text_at s.descriptions.cmds c))
+                  (text_lawful s.descriptions.cmds c seen.descriptions.cmds),
+              tt,
+            ),
+          ),
+        ),
+      ))))
   row (GetUpsDesc ups) =
-      of_ups ups (λ u named. tells _ refl (λ seen h.
-      (refl, ((lawful_known s seen ups u h named).name, (quoted_plain VALUE_LIMIT (text_or_unavailable (description_at s u.id)) (description_lawful s seen u.id), tt)))))
+      of_ups ups (λ u named. tells _ refl (λ seen h. (
+        refl,
+        (
+          (lawful_known s seen ups u h named).name,
+          (quoted_plain VALUE_LIMIT (text_or_unavailable (description_at s u.id)) (description_lawful s seen u.id), tt),
+        ),
+      )))
   row (GetNumLogins ups) = of_ups ups (λ u named. tells _ refl (λ seen h. (refl, count_plain s seen ups u h named)))
   row (GetNumAttach ups) = of_ups ups (λ u named. tells _ refl (λ seen h. (refl, count_plain s seen ups u h named)))
   row GetTracking = tells _ refl (λ seen h. (refl, (on_or_off_plain asker.tracking, tt)))
-  row (GetProgress id) = found (unknown_id s id) (λ k is. tells _ refl (λ seen h. (refl, (ids_are_lawful.lawful k.0, progress_plain k.1 (progress_found s id k seen.numbers is)))))
-  row ListUps = lists _ (λ seen h. listing_shaped (codes "UPS") [] _ (refl, tt) (items_of IsLawfulUps ups_item ups_inside s.list seen.list))
+  row (GetProgress id) = found (unknown_id s id)
+      (λ k is. tells _ refl (λ seen h.
+      (refl, (ids_are_lawful.lawful k.0, progress_plain k.1 (progress_found s id k seen.numbers is)))))
+  row ListUps = lists _ (λ seen h. listing_shaped (codes "UPS") [] _ (refl, tt)
+      (items_of IsLawfulUps ups_item ups_inside s.list seen.list))
   row (ListVar ups) =
       of_usable ups (λ u named. lists _ (λ seen h.
       let k = lawful_known s seen ups u h named in
       listing_shaped (codes "VAR") (u.name ∷ []) _ (refl, (k.name, tt))
-      (items_of IsSoundEntry (variable_item (codes "VAR") u.name u.state.fsd) (entry_item (codes "VAR") u.name u.state.fsd refl k.name (λ name text. refl)) _ (variables_of s seen u k))))
+      (items_of IsSoundEntry (variable_item (codes "VAR") u.name u.state.fsd)
+      (entry_item (codes "VAR") u.name u.state.fsd refl k.name (λ name text. refl)) _ (variables_of s seen u k))))
   row (ListRw ups) =
       of_usable ups (λ u named. lists _ (λ seen h.
       let k = lawful_known s seen ups u h named in
       listing_shaped (codes "RW") (u.name ∷ []) _ (refl, (k.name, tt))
-      (items_of IsSoundEntry (variable_item (codes "RW") u.name u.state.fsd) (entry_item (codes "RW") u.name u.state.fsd refl k.name (λ name text. refl)) _ (All-filter is_rw IsSoundEntry _ (variables_of s seen u k)))))
+      (items_of IsSoundEntry (variable_item (codes "RW") u.name u.state.fsd)
+      (entry_item (codes "RW") u.name u.state.fsd refl k.name (λ name text. refl)) _
+      (All-filter is_rw IsSoundEntry _ (variables_of s seen u k)))))
   row (ListCmd ups) =
       of_usable ups (λ u named. lists _ (λ seen h.
       let k = lawful_known s seen ups u h named in
-      listing_shaped (codes "CMD") (u.name ∷ []) _ (refl, (k.name, tt)) (items_of (λ name. IsTrue (is_name name)) (command_item u.name) (command_inside u.name k.name) _ k.tree.commands)))
+      listing_shaped (codes "CMD") (u.name ∷ []) _ (refl, (k.name, tt))
+      (items_of (λ name. IsTrue (is_name name)) (command_item u.name)
+      (command_inside u.name k.name) _ k.tree.commands)))
   row (ListEnum ups name) =
       of_variable ups name (λ u v named is. lists _ (λ seen h.
       let f = lawful_found s seen ups name u v h named is in
       listing_shaped (codes "ENUM") (u.name ∷ v.0 ∷ []) _ (refl, (f.ups.name, (f.name, tt)))
-      (items_of (λ value. IsTrue (is_value value)) (enum_item u.name v.0) (enum_inside u.name v.0 f.ups.name f.name) v.1.enum_values f.entry.1.enum_values)))
+      (items_of (λ value. IsTrue (is_value value)) (enum_item u.name v.0)
+      (enum_inside u.name v.0 f.ups.name f.name) v.1.enum_values f.entry.1.enum_values)))
   row (ListRange ups name) =
       of_variable ups name (λ u v named is. lists _ (λ seen h.
       let f = lawful_found s seen ups name u v h named is in
       listing_shaped (codes "RANGE") (u.name ∷ v.0 ∷ []) _ (refl, (f.ups.name, (f.name, tt)))
-      (items_of IsSoundRange (range_item u.name v.0) (range_inside u.name v.0 f.ups.name f.name) v.1.ranges f.entry.1.ranges)))
+      (items_of IsSoundRange (range_item u.name v.0) (range_inside u.name v.0 f.ups.name f.name)
+      v.1.ranges f.entry.1.ranges)))
   row (ListClient ups) =
       of_ups ups (λ u named. lists_clients _ (λ seen h.
       let k = lawful_known s seen ups u h named in
       listing_shaped (codes "CLIENT") (u.name ∷ []) _ (refl, (k.name, tt))
-      (items_of (λ address. IsTrue (is_address address)) (client_item u.name) (client_inside u.name k.name) _ (lawful_clients s seen u))))
+      (items_of (λ address. IsTrue (is_address address)) (client_item u.name)
+      (client_inside u.name k.name) _ (lawful_clients s seen u))))
   row Help = tells _ refl (λ seen h. (refl, tt))
   row Ver = tells _ refl (λ seen h. (refl, tt))
   row NetVer = tells _ refl (λ seen h. (refl, tt))
@@ -208,13 +351,15 @@ one_ups o k l e f = cc
 
 module _ (s : Seen) (asker : AskerSeen) (u known : KnownUps) (same : u ≡ known) (line : Option ℕ → List ℕ) where
   -- the bare OK
-  untracked : (id : Option ℕ) → OrdersIfOk ok (order known.id (line None) None) (Ok (one_line (ok_words id) (order u.id (line id) id)))
+  untracked : (id : Option ℕ) →
+      OrdersIfOk ok (order known.id (line None) None) (Ok (one_line (ok_words id) (order u.id (line id) id)))
   untracked None e = cc
   untracked (Some id) e = cc e
 
   -- OK and the first available id
   tracked : (id : ℕ) → next_id s.tracking ≡ Some id → (used : Option ℕ) → IsIdOfOrder s asker used
-      → OrdersIfOk (ok_words (Some id)) (order known.id (line (Some id)) (Some id)) (Ok (one_line (ok_words used) (order u.id (line used) used)))
+      → OrdersIfOk (ok_words (Some id)) (order known.id (line (Some id)) (Some id))
+      (Ok (one_line (ok_words used) (order u.id (line used) used)))
   tracked id next None is e = cc e
   tracked id next (Some used) is e = cc (same, is.1, next)
 
@@ -230,24 +375,35 @@ pub ok_orders : EachOrderAnsweredOkIsGiven
 ok_orders = record {
   set = λ s asker ups name value known named.
       set_row (OrdersIfOk ok (order known.id (set_line name value None) None)) (λ word e. cc e) s asker ups name value
-      (λ u x id right found going there writable short may_be id_is fits. untracked s asker u known (one_ups (ups_named s ups) u known found named) (λ id. set_line name value id) id);
+      (λ u x id right found going there writable short may_be id_is fits. untracked s asker u known
+      (one_ups (ups_named s ups) u known found named) (λ id. set_line name value id) id);
   command = λ s asker ups name value known named.
-      command_row (OrdersIfOk ok (order known.id (instcmd_line name value None) None)) (λ word e. cc e) s asker ups name value
-      (λ u id right found going there id_is fits. untracked s asker u known (one_ups (ups_named s ups) u known found named) (λ id. instcmd_line name value id) id);
+      command_row (OrdersIfOk ok (order known.id (instcmd_line name value None) None))
+      (λ word e. cc e) s asker ups name value
+      (λ u id right found going there id_is fits. untracked s asker u known
+      (one_ups (ups_named s ups) u known found named) (λ id. instcmd_line name value id) id);
   tracked_set = λ s asker ups name value known id named next.
-      set_row (OrdersIfOk (ok_words (Some id)) (order known.id (set_line name value (Some id)) (Some id))) (λ word e. absurd (no_error word id e)) s asker ups name value
-      (λ u x used right found going there writable short may_be id_is fits. tracked s asker u known (one_ups (ups_named s ups) u known found named) (λ id. set_line name value id) id next used id_is);
+      set_row (OrdersIfOk (ok_words (Some id))
+      (order known.id (set_line name value (Some id)) (Some id)))
+      (λ word e. absurd (no_error word id e)) s asker ups name value
+      (λ u x used right found going there writable short may_be id_is fits. tracked s asker u known
+      (one_ups (ups_named s ups) u known found named) (λ id. set_line name value id) id next used id_is);
   tracked_command = λ s asker ups name value known id named next.
-      command_row (OrdersIfOk (ok_words (Some id)) (order known.id (instcmd_line name value (Some id)) (Some id))) (λ word e. absurd (no_error word id e)) s asker ups name value
-      (λ u used right found going there id_is fits. tracked s asker u known (one_ups (ups_named s ups) u known found named) (λ id. instcmd_line name value id) id next used id_is);
+      command_row (OrdersIfOk (ok_words (Some id))
+      (order known.id (instcmd_line name value (Some id)) (Some id)))
+      (λ word e. absurd (no_error word id e)) s asker ups name value
+      (λ u used right found going there id_is fits. tracked s asker u known
+      (one_ups (ups_named s ups) u known found named) (λ id. instcmd_line name value id) id next used id_is);
 }
 
 -- the data of a UPS that are answered are fresh
 pub answered_fresh : WhatIsAnsweredIsFresh
 answered_fresh s asker (SetVar ups name value) other answer h e =
-    fresh.moved s ups other _ h (checks.held (fresh.AnswersFresh s ups) (fresh.no_answer s ups) (user s asker rights.Set) _ (λ right. fresh.row s ups _)) answer e
+    fresh.moved s ups other _ h (checks.held (fresh.AnswersFresh s ups) (fresh.no_answer s ups)
+    (user s asker rights.Set) _ (λ right. fresh.row s ups _)) answer e
 answered_fresh s asker (InstCmd ups name value) other answer h e =
-    fresh.moved s ups other _ h (checks.held (fresh.AnswersFresh s ups) (fresh.no_answer s ups) (user s asker (instcmd_right name)) _ (λ right. fresh.row s ups _)) answer e
+    fresh.moved s ups other _ h (checks.held (fresh.AnswersFresh s ups) (fresh.no_answer s ups)
+    (user s asker (instcmd_right name)) _ (λ right. fresh.row s ups _)) answer e
 answered_fresh s asker (GetVar ups name) other answer h e = fresh.moved s ups other _ h (fresh.row s ups _) answer e
 answered_fresh s asker (GetType ups name) other answer h e = fresh.moved s ups other _ h (fresh.row s ups _) answer e
 answered_fresh s asker (ListVar ups) other answer h e = fresh.moved s ups other _ h (fresh.row s ups _) answer e

@@ -10,10 +10,12 @@ use Rattle.nutlisting.specs.Lines.{IsAnswerLine}
 use Rattle.nutparse.specs.ErrWord.{spelling_of}
 use Rattle.nutanswer.specs.Laws.{ErrorLinesAreWhole}
 
-pub error_lawful : (word : ErrWord) → list_all is_lawful (join_with_byte 32 (codes "ERR" ∷ spelling_of word ∷ [])) ≡ true
+pub error_lawful : (word : ErrWord) →
+    list_all is_lawful (join_with_byte 32 (codes "ERR" ∷ spelling_of word ∷ [])) ≡ true
 error_lawful word = grind arith
 
-error_short : (word : ErrWord) → leb (length (join_with_byte 32 (codes "ERR" ∷ spelling_of word ∷ []))) LINE_LIMIT ≡ true
+error_short : (word : ErrWord) →
+    leb (length (join_with_byte 32 (codes "ERR" ∷ spelling_of word ∷ []))) LINE_LIMIT ≡ true
 error_short word = grind arith
 
 error_answer : (word : ErrWord) → IsAnswerLine (join_with_byte 32 (codes "ERR" ∷ spelling_of word ∷ []))

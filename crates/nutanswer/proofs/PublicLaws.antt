@@ -1,5 +1,7 @@
--- The laws of this crate that a proof in a crate above may cite: each is what a function of src/laws.rt ensures.
-use Rattle.nutanswer.specs.Laws.{ANamedUpsIsSeen, OrdersFit, ErrorLinesAreWhole, OrderLinesAreWhole, EachAnswerIsALineOrAListing, EachErrorIsALine}
+-- The laws of this crate that a proof in a crate above may cite: each is what a function of
+-- src/laws.rt ensures.
+use Rattle.nutanswer.specs.Laws.{ANamedUpsIsSeen, OrdersFit, ErrorLinesAreWhole, OrderLinesAreWhole}
+use Rattle.nutanswer.specs.Laws.{EachAnswerIsALineOrAListing, EachErrorIsALine}
 use Rattle.nutanswer.specs.Rows.{EachChangeComesOfItsCommand, EachOrderAnsweredOkIsGiven}
 use Rattle.nutanswer.proofs.Commands as commands
 use Rattle.nutanswer.proofs.Named as named

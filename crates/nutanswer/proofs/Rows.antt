@@ -1,12 +1,16 @@
 -- A row of the table, by what its checks find together.
-use Rattle.std.proofs.Common.{arith, ◌≡◌, ℕ, List, Option, Some, Result, Ok, Err, refl, sym, ap, ◌∙◌, subst}
+use Rattle.std.proofs.Common.{arith, ◌≡◌, ℕ, List, Option, Some, Result, Ok, Err, refl, sym}
+use Rattle.std.proofs.Common.{ap, ◌∙◌, subst}
 use Rattle.nutdriver.specs.Variable.{VariableState}
 use Rattle.nutparse.specs.declared.err_word.ErrWord.{ErrWord}
 use Rattle.nutusers.specs.declared.rights.Right.TheVariants.{Set}
 use Rattle.nutanswer.specs.View.{Seen, AskerSeen}
 use Rattle.nutparse.specs.declared.command.Command.TheVariants.{SetVar, InstCmd}
 use Rattle.nutanswer.specs.Answer.{Answer, answer_to, one_line}
-use Rattle.nutanswer.specs.Checks.{◌>>=◌, ◌>>◌, KnownUps, user, unknown_ups, live, var_not_supported, cmd_not_supported, readonly, too_long, too_long_of_command, invalid_value, no_id, set_failed, instcmd_failed}
+use Rattle.nutanswer.specs.Checks.{◌>>=◌, ◌>>◌, KnownUps, user, unknown_ups, live}
+use Rattle.nutanswer.specs.Checks.{var_not_supported, cmd_not_supported, readonly, too_long}
+use Rattle.nutanswer.specs.Checks.{too_long_of_command, invalid_value, no_id, set_failed}
+use Rattle.nutanswer.specs.Checks.{instcmd_failed}
 use Rattle.nutanswer.specs.Orders.{set_line, instcmd_line, instcmd_right, order, ok_words}
 use Rattle.nutanswer.specs.Promises.{live_ups, live_variable, live_command, settable, Gives, GivesLine, GivesListing}
 use Rattle.nutlisting.specs.Items.{ListingState}
@@ -16,37 +20,53 @@ use Rattle.std.specs.Prelude.{◌≤◌, ◌<◌, length}
 use Rattle.std.proofs.lemmas.Bool.{le-leb, lt-leb}
 
 -- a row that is refused by this word is answered so
-pub refused_by : (answer : Result Answer ErrWord) (word : ErrWord) (r : Result Reply ErrWord) → answer ≡ Err word → r ≡ Err word → Gives answer r
+pub refused_by : (answer : Result Answer ErrWord) (word : ErrWord) (r : Result Reply ErrWord) →
+    answer ≡ Err word → r ≡ Err word → Gives answer r
 refused_by answer word r h is = subst (λ (r : Result Reply ErrWord). Gives answer r) (sym is) h
 
-pub refused_line : (answer : Result Answer ErrWord) (word : ErrWord) (r : Result (Unit {0}) ErrWord) (line : List ℕ) → answer ≡ Err word → r ≡ Err word → GivesLine answer r line
+pub refused_line : (answer : Result Answer ErrWord) (word : ErrWord) (r : Result (Unit {0}) ErrWord)
+    (line : List ℕ) → answer ≡ Err word → r ≡ Err word → GivesLine answer r line
 refused_line answer word r line h is = subst (λ (r : Result (Unit {0}) ErrWord). GivesLine answer r line) (sym is) h
 
-pub refused_listing : {E : Type 0} (answer : Result Answer ErrWord) (word : ErrWord) (r : Result (Result ListingState E) ErrWord) → answer ≡ Err word → r ≡ Err word → GivesListing answer r
-refused_listing {E} answer word r h is = subst (λ (r : Result (Result ListingState E) ErrWord). GivesListing answer r) (sym is) h
+pub refused_listing : {E : Type 0} (answer : Result Answer ErrWord) (word : ErrWord)
+    (r : Result (Result ListingState E) ErrWord) → answer ≡ Err word → r ≡ Err word → GivesListing answer r
+refused_listing {E} answer word r h is =
+    subst (λ (r : Result (Result ListingState E) ErrWord). GivesListing answer r) (sym is) h
 
 -- what comes after a check, in two parts
-after_check : {A B C : Type 0} (m : Result A ErrWord) (both : A → Result C ErrWord) (first : A → Result B ErrWord) (next : B → Result C ErrWord)
+after_check : {A B C : Type 0} (m : Result A ErrWord) (both : A → Result C ErrWord)
+    (first : A → Result B ErrWord) (next : B → Result C ErrWord)
     → ((a : A) → both a ≡ (first a >>= next)) → (m >>= both) ≡ ((m >>= first) >>= next)
 after_check m both first next h = grind arith
 
 -- the same of a check that finds nothing
-after_test : {B C : Type 0} (m : Result (Unit {0}) ErrWord) (both : Result C ErrWord) (first : Result B ErrWord) (next : B → Result C ErrWord)
+after_test : {B C : Type 0} (m : Result (Unit {0}) ErrWord) (both : Result C ErrWord)
+    (first : Result B ErrWord) (next : B → Result C ErrWord)
     → both ≡ (first >>= next) → (m >> both) ≡ ((m >> first) >>= next)
 after_test m both first next h = grind arith
 
 -- the checks of a variable of a live UPS
-row_of_variable : {A : Type 0} (s : Seen) (ups name : Option (List ℕ)) (next : KnownUps → List ℕ → VariableState → Result A ErrWord)
-    → (unknown_ups s ups >>= (λ u. live s u >> (var_not_supported u name >>= (λ v. next u v.0 v.1)))) ≡ (live_variable s ups name >>= (λ k. next k.0 k.1 k.2))
+row_of_variable : {A : Type 0} (s : Seen) (ups name : Option (List ℕ))
+    (next : KnownUps → List ℕ → VariableState → Result A ErrWord)
+    →
+    (unknown_ups s ups >>= (λ u. live s u >>
+    (var_not_supported u name >>= (λ v. next u v.0 v.1)))) ≡ (live_variable s ups name >>= (λ k. next k.0 k.1 k.2))
 row_of_variable s ups name next =
-    after_check (unknown_ups s ups) (λ u. live s u >> (var_not_supported u name >>= (λ v. next u v.0 v.1))) (λ u. live s u >> (var_not_supported u name >>= (λ v. Ok (u, v.0, v.1)))) (λ k. next k.0 k.1 k.2)
-    (λ u. after_test (live s u) (var_not_supported u name >>= (λ v. next u v.0 v.1)) (var_not_supported u name >>= (λ v. Ok (u, v.0, v.1))) (λ k. next k.0 k.1 k.2)
-    (after_check (var_not_supported u name) (λ v. next u v.0 v.1) (λ v. Ok (u, v.0, v.1)) (λ k. next k.0 k.1 k.2) (λ v. refl)))
+    after_check (unknown_ups s ups) (λ u. live s u >>
+    (var_not_supported u name >>= (λ v. next u v.0 v.1)))
+    (λ u. live s u >> (var_not_supported u name >>= (λ v. Ok (u, v.0, v.1)))) (λ k. next k.0 k.1 k.2)
+    (λ u. after_test (live s u) (var_not_supported u name >>= (λ v. next u v.0 v.1))
+    (var_not_supported u name >>= (λ v. Ok (u, v.0, v.1))) (λ k. next k.0 k.1 k.2)
+    (after_check (var_not_supported u name) (λ v. next u v.0 v.1) (λ v. Ok (u, v.0, v.1))
+    (λ k. next k.0 k.1 k.2) (λ v. refl)))
 
-module _ {A : Type 0} (s : Seen) (ups name : Option (List ℕ)) (next : KnownUps → List ℕ → VariableState → Result A ErrWord) where
+module _ {A : Type 0} (s : Seen) (ups name : Option (List ℕ))
+    (next : KnownUps → List ℕ → VariableState → Result A ErrWord) where
   -- what comes after these checks gets what they found
   pub with_variable : (k : KnownUps × List ℕ × VariableState) → Ok k ≡ live_variable s ups name
-      → (unknown_ups s ups >>= (λ u. live s u >> (var_not_supported u name >>= (λ v. next u v.0 v.1)))) ≡ next k.0 k.1 k.2
+      →
+      (unknown_ups s ups >>= (λ u. live s u >>
+      (var_not_supported u name >>= (λ v. next u v.0 v.1)))) ≡ next k.0 k.1 k.2
   with_variable k e = row_of_variable s ups name next ∙ ap (λ r. r >>= (λ k. next k.0 k.1 k.2)) (sym e)
 
   -- and where one of them fails, the row fails so
@@ -55,48 +75,63 @@ module _ {A : Type 0} (s : Seen) (ups name : Option (List ℕ)) (next : KnownUps
   without_variable word e = row_of_variable s ups name next ∙ ap (λ r. r >>= (λ k. next k.0 k.1 k.2)) (sym e)
 
 -- the checks of a live UPS: where one of them fails, the row fails so
-pub without_ups : {A : Type 0} (s : Seen) (ups : Option (List ℕ)) (next : KnownUps → Result A ErrWord) (word : ErrWord) → Err word ≡ live_ups s ups
+pub without_ups : {A : Type 0} (s : Seen) (ups : Option (List ℕ))
+    (next : KnownUps → Result A ErrWord) (word : ErrWord) → Err word ≡ live_ups s ups
     → (unknown_ups s ups >>= (λ u. live s u >> next u)) ≡ Err word
 without_ups s ups next word e =
-    after_check (unknown_ups s ups) (λ u. live s u >> next u) (λ u. live s u >> Ok u) next (λ u. after_test (live s u) (next u) (Ok u) next refl)
+    after_check (unknown_ups s ups) (λ u. live s u >> next u) (λ u. live s u >> Ok u) next
+    (λ u. after_test (live s u) (next u) (Ok u) next refl)
     ∙ ap (λ r. r >>= next) (sym e)
 
 -- the checks of a command of a live UPS
-row_of_command : {A : Type 0} (s : Seen) (ups name : Option (List ℕ)) (next : KnownUps → List ℕ → Result A ErrWord)
-    → (unknown_ups s ups >>= (λ u. live s u >> (cmd_not_supported u name >>= (λ c. next u c)))) ≡ (live_command s ups name >>= (λ k. next k.0 k.1))
+row_of_command : {A : Type 0} (s : Seen) (ups name : Option (List ℕ))
+    (next : KnownUps → List ℕ → Result A ErrWord)
+    → (unknown_ups s ups >>= (λ u. live s u >> (cmd_not_supported u name >>= (λ c. next u c))))
+    ≡ (live_command s ups name >>= (λ k. next k.0 k.1))
 row_of_command s ups name next =
-    after_check (unknown_ups s ups) (λ u. live s u >> (cmd_not_supported u name >>= (λ c. next u c))) (λ u. live s u >> (cmd_not_supported u name >>= (λ c. Ok (u, c)))) (λ k. next k.0 k.1)
-    (λ u. after_test (live s u) (cmd_not_supported u name >>= (λ c. next u c)) (cmd_not_supported u name >>= (λ c. Ok (u, c))) (λ k. next k.0 k.1)
+    after_check (unknown_ups s ups) (λ u. live s u >>
+    (cmd_not_supported u name >>= (λ c. next u c)))
+    (λ u. live s u >> (cmd_not_supported u name >>= (λ c. Ok (u, c)))) (λ k. next k.0 k.1)
+    (λ u. after_test (live s u) (cmd_not_supported u name >>= (λ c. next u c))
+    (cmd_not_supported u name >>= (λ c. Ok (u, c))) (λ k. next k.0 k.1)
     (after_check (cmd_not_supported u name) (λ c. next u c) (λ c. Ok (u, c)) (λ k. next k.0 k.1) (λ c. refl)))
 
 -- the checks of a value that a variable is to be set to
 row_of_value : {A : Type 0} (x : VariableState) (word : Option (List ℕ)) (next : List ℕ → Result A ErrWord)
-    → (readonly x >> (too_long x word >>= (λ value. invalid_value x value >> next value))) ≡ (settable x word >>= next)
+    → (readonly x >> (too_long x word >>= (λ value. invalid_value x value >> next value))) ≡
+    (settable x word >>= next)
 row_of_value x word next =
-    after_test (readonly x) (too_long x word >>= (λ value. invalid_value x value >> next value)) (too_long x word >>= (λ value. invalid_value x value >> Ok value)) next
-    (after_check (too_long x word) (λ value. invalid_value x value >> next value) (λ value. invalid_value x value >> Ok value) next
+    after_test (readonly x) (too_long x word >>= (λ value. invalid_value x value >> next value))
+    (too_long x word >>= (λ value. invalid_value x value >> Ok value)) next
+    (after_check (too_long x word) (λ value. invalid_value x value >> next value)
+    (λ value. invalid_value x value >> Ok value) next
     (λ value. after_test (invalid_value x value) (next value) (Ok value) next refl))
 
 -- such a value is that of the word
-pub settable_is : (x : VariableState) (word : Option (List ℕ)) (value : List ℕ) → Ok value ≡ settable x word → word ≡ Some value
+pub settable_is : (x : VariableState) (word : Option (List ℕ)) (value : List ℕ) → Ok value ≡
+    settable x word → word ≡ Some value
 settable_is x word value h = given (readonly x) (λ v. invalid_value x v) h
   where
-    given : (first : Result (Unit {0}) ErrWord) (last : List ℕ → Result (Unit {0}) ErrWord) → Ok value ≡ (first >> (too_long x word >>= (λ v. last v >> Ok v))) → word ≡ Some value
+    given : (first : Result (Unit {0}) ErrWord) (last : List ℕ → Result (Unit {0}) ErrWord) →
+        Ok value ≡ (first >> (too_long x word >>= (λ v. last v >> Ok v))) → word ≡ Some value
     given first last h = grind arith
 
 -- the end of SET VAR: the id that it uses, and the line, which fits and is owed
 abbrev pub set_end : Seen → AskerSeen → KnownUps → List ℕ → List ℕ → Result Answer ErrWord
 set_end s asker u v value =
-    no_id s asker SetFailed >>= (λ id. set_failed u (set_line v value id) >> Ok (one_line (ok_words id) (order u.id (set_line v value id) id)))
+    no_id s asker SetFailed >>= (λ id. set_failed u (set_line v value id) >> Ok
+    (one_line (ok_words id) (order u.id (set_line v value id) id)))
 
 -- and of INSTCMD
 abbrev pub instcmd_end : Seen → AskerSeen → KnownUps → List ℕ → Option (List ℕ) → Result Answer ErrWord
 instcmd_end s asker u c value =
-    no_id s asker InstcmdFailed >>= (λ id. instcmd_failed u (instcmd_line c value id) >> Ok (one_line (ok_words id) (order u.id (instcmd_line c value id) id)))
+    no_id s asker InstcmdFailed >>= (λ id. instcmd_failed u (instcmd_line c value id) >> Ok
+    (one_line (ok_words id) (order u.id (instcmd_line c value id) id)))
 
 module _ (s : Seen) (asker : AskerSeen) (ups name : Option (List ℕ)) where
   -- SET VAR, by the user's right and the checks of a variable
-  pub set_row : (word : Option (List ℕ)) (k : KnownUps × List ℕ × VariableState) → Ok tt ≡ user s asker Set → Ok k ≡ live_variable s ups name
+  pub set_row : (word : Option (List ℕ)) (k : KnownUps × List ℕ × VariableState) → Ok tt ≡
+      user s asker Set → Ok k ≡ live_variable s ups name
       → answer_to s asker (SetVar ups name word) ≡ (settable k.2 word >>= (λ value. set_end s asker k.0 k.1 value))
   set_row word k h e =
       let next : KnownUps → List ℕ → VariableState → Result Answer ErrWord =
@@ -104,7 +139,8 @@ module _ (s : Seen) (asker : AskerSeen) (ups name : Option (List ℕ)) where
       cc (h, with_variable s ups name next k e, row_of_value k.2 word (λ value. set_end s asker k.0 k.1 value))
 
   -- a variable that isn't there
-  pub set_without : (word : Option (List ℕ)) → Ok tt ≡ user s asker Set → (why : ErrWord) → Err why ≡ live_variable s ups name
+  pub set_without : (word : Option (List ℕ)) → Ok tt ≡ user s asker Set →
+      (why : ErrWord) → Err why ≡ live_variable s ups name
       → (r : Result Reply ErrWord) → r ≡ Err why → Gives (answer_to s asker (SetVar ups name word)) r
   set_without word h why e r is =
       let next : KnownUps → List ℕ → VariableState → Result Answer ErrWord =
@@ -113,39 +149,57 @@ module _ (s : Seen) (asker : AskerSeen) (ups name : Option (List ℕ)) where
 
   -- INSTCMD, by the user's right and the checks of a command
   pub instcmd_row : (word : Option (Option (List ℕ))) → Ok tt ≡ user s asker (instcmd_right name)
-      → answer_to s asker (InstCmd ups name word) ≡ (live_command s ups name >>= (λ k. too_long_of_command word >>= (λ value. instcmd_end s asker k.0 k.1 value)))
+      → answer_to s asker (InstCmd ups name word) ≡
+      (live_command s ups name >>= (λ k. too_long_of_command word >>= (λ value. instcmd_end s asker k.0 k.1 value)))
   instcmd_row word h =
-      let next : KnownUps → List ℕ → Result Answer ErrWord = λ u c. too_long_of_command word >>= (λ value. instcmd_end s asker u c value) in
+      let next : KnownUps → List ℕ → Result Answer ErrWord =
+      λ u c. too_long_of_command word >>= (λ value. instcmd_end s asker u c value) in
       cc (h, row_of_command s ups name next)
 
-  module _ (word : Option (List ℕ)) (k : KnownUps × List ℕ × VariableState) (h : Ok tt ≡ user s asker Set) (e : Ok k ≡ live_variable s ups name) where
+  module _ (word : Option (List ℕ)) (k : KnownUps × List ℕ × VariableState)
+      (h : Ok tt ≡ user s asker Set) (e : Ok k ≡ live_variable s ups name) where
     -- the variable isn't to have this value
     pub set_refused : (why : ErrWord) → Err why ≡ settable k.2 word → (r : Result Reply ErrWord) → r ≡ Err why
         → Gives (answer_to s asker (SetVar ups name word)) r
     set_refused why f r is =
         refused_by (answer_to s asker (SetVar ups name word)) why r (cc (set_row word k h e, f)) is
 
-    set_using : (value : List ℕ) → Ok value ≡ settable k.2 word → (id : Result (Option ℕ) ErrWord) → id ≡ no_id s asker SetFailed
-        → answer_to s asker (SetVar ups name word) ≡ (id >>= (λ id. set_failed k.0 (set_line k.1 value id) >> Ok (one_line (ok_words id) (order k.0.id (set_line k.1 value id) id))))
+    set_using : (value : List ℕ) → Ok value ≡ settable k.2 word →
+        (id : Result (Option ℕ) ErrWord) → id ≡ no_id s asker SetFailed
+        → answer_to s asker (SetVar ups name word) ≡
+        (id >>= (λ id. set_failed k.0 (set_line k.1 value id) >> Ok
+        (one_line (ok_words id) (order k.0.id (set_line k.1 value id) id))))
     set_using value f id g = cc (set_row word k h e, f, g)
 
     -- there is no id
-    pub set_without_id : (value : List ℕ) → Ok value ≡ settable k.2 word → (why : ErrWord) → Err why ≡ no_id s asker SetFailed → (r : Result Reply ErrWord) → r ≡ Err why
+    pub set_without_id : (value : List ℕ) → Ok value ≡ settable k.2 word →
+        (why : ErrWord) → Err why ≡ no_id s asker SetFailed → (r : Result Reply ErrWord) → r ≡ Err why
         → Gives (answer_to s asker (SetVar ups name word)) r
-    set_without_id value f why g r is = refused_by (answer_to s asker (SetVar ups name word)) why r (set_using value f (Err why) g) is
+    set_without_id value f why g r is =
+        refused_by (answer_to s asker (SetVar ups name word)) why r (set_using value f (Err why) g) is
 
     -- the line doesn't fit
-    pub set_full : (value : List ℕ) → Ok value ≡ settable k.2 word → (id : Option ℕ) → Ok id ≡ no_id s asker SetFailed → k.0.state.free < length (set_line k.1 value id)
+    pub set_full : (value : List ℕ) → Ok value ≡ settable k.2 word → (id : Option ℕ) →
+        Ok id ≡ no_id s asker SetFailed → k.0.state.free < length (set_line k.1 value id)
         → answer_to s asker (SetVar ups name word) ≡ Err SetFailed
-    set_full value f id g more = cc (set_using value f (Ok id) g, lt-leb (length (set_line k.1 value id)) k.0.state.free more)
+    set_full value f id g more = cc (
+      set_using value f (Ok id) g,
+      lt-leb (length (set_line k.1 value id)) k.0.state.free more,
+    )
 
     -- the driver is owed the line
-    pub set_done : (value : List ℕ) → Ok value ≡ settable k.2 word → (id : Option ℕ) → Ok id ≡ no_id s asker SetFailed → length (set_line k.1 value id) ≤ k.0.state.free
-        → answer_to s asker (SetVar ups name word) ≡ Ok (one_line (ok_words id) (order k.0.id (set_line k.1 value id) id))
-    set_done value f id g fits = cc (set_using value f (Ok id) g, le-leb (length (set_line k.1 value id)) k.0.state.free fits)
+    pub set_done : (value : List ℕ) → Ok value ≡ settable k.2 word → (id : Option ℕ) →
+        Ok id ≡ no_id s asker SetFailed → length (set_line k.1 value id) ≤ k.0.state.free
+        → answer_to s asker (SetVar ups name word) ≡
+        Ok (one_line (ok_words id) (order k.0.id (set_line k.1 value id) id))
+    set_done value f id g fits = cc (
+      set_using value f (Ok id) g,
+      le-leb (length (set_line k.1 value id)) k.0.state.free fits,
+    )
 
   -- a command that isn't there
-  pub instcmd_refused : (word : Option (Option (List ℕ))) → Ok tt ≡ user s asker (instcmd_right name) → (why : ErrWord) → Err why ≡ live_command s ups name
+  pub instcmd_refused : (word : Option (Option (List ℕ))) → Ok tt ≡
+      user s asker (instcmd_right name) → (why : ErrWord) → Err why ≡ live_command s ups name
       → (r : Result Reply ErrWord) → r ≡ Err why → Gives (answer_to s asker (InstCmd ups name word)) r
   instcmd_refused word h why f r is =
       refused_by (answer_to s asker (InstCmd ups name word)) why r (cc (instcmd_row word h, f)) is

@@ -1,5 +1,7 @@
 -- Requests of which some are answered.
-use Rattle.std.proofs.Common.{◌≡◌, ℕ, List, [], ◌∷◌, ◌++◌, Option, Ok, Err, refl, sym, ap, subst, ◌∙◌, append_assoc, append-nil, drop, suc, length, get_or, add-one, ◌+◌, ◌<◌}
+use Rattle.std.proofs.Common.{◌≡◌, ℕ, List, [], ◌∷◌, ◌++◌, Option, Ok, Err, refl}
+use Rattle.std.proofs.Common.{sym, ap, subst, ◌∙◌, append_assoc, append-nil, drop, suc}
+use Rattle.std.proofs.Common.{length, get_or, add-one, ◌+◌, ◌<◌}
 use Rattle.std.proofs.Math.Seq.{drop-cons}
 use Rattle.nutio.specs.Ends.{Received, Written, IsBeginning}
 use Rattle.nutrequest.specs.Request.{request_line}
@@ -8,15 +10,20 @@ use Rattle.nutrequest.specs.Session.{AskGives}
 use Rattle.nutrequest.specs.declared.item.Item.{Item}
 use Rattle.nutrequest.specs.declared.request.Request.{Request}
 use Rattle.nutrequest.specs.declared.faults.ClientFault.{ClientFault}
-use Rattle.nutrequest.specs.declared.faults.ClientFault.TheVariants.{Connect, Read, Write, EarlyEnd, ErrWord, BadReply, BadTarget, Memory}
+use Rattle.nutrequest.specs.declared.faults.ClientFault.TheVariants.{Connect, Read, Write, EarlyEnd}
+use Rattle.nutrequest.specs.declared.faults.ClientFault.TheVariants.{ErrWord, BadReply, BadTarget}
+use Rattle.nutrequest.specs.declared.faults.ClientFault.TheVariants.{Memory}
 use Rattle.nutclient.specs.Requests.{lines_behind, sent_lines, reply_behind, last_reply_after, last_reply, RequestsGive}
-use Rattle.nutio.proofs.PublicLaws.{nothing_is_received, received_joins, read_failed_joins, nothing_is_written, written_joins, write_failed_joins}
+use Rattle.nutio.proofs.PublicLaws.{nothing_is_received, received_joins, read_failed_joins}
+use Rattle.nutio.proofs.PublicLaws.{nothing_is_written, written_joins, write_failed_joins}
 
-module _ {R W : Type 0} (rem : R → Option (List ℕ)) (rf : R → ℕ) (con : W → Option (List ℕ)) (wf : W → ℕ)
+module _ {R W : Type 0} (rem : R → Option (List ℕ)) (rf : R → ℕ)
+    (con : W → Option (List ℕ)) (wf : W → ℕ)
     (all : List Request) (old : List ℕ) (reader : R) (writer : W) where
-  -- Of all requests these are left: what came and what was written so far are the replies and the lines up to
-  -- there, and these items came last.
-  pub record IsUnderWay (items : List Item) (left : List Request) (kept : List ℕ) (after : R) (sent : W) : Type 0 where
+  -- Of all requests these are left: what came and what was written so far are the replies and the
+  -- lines up to there, and these items came last.
+  pub record IsUnderWay (items : List Item) (left : List Request) (kept : List ℕ) (after : R)
+      (sent : W) : Type 0 where
     pub came : List ℕ
     pub text : List ℕ
     pub read : Received rem rf reader came after
@@ -37,7 +44,8 @@ module _ {R W : Type 0} (rem : R → Option (List ℕ)) (rf : R → ℕ) (con : 
 
   -- all are granted
   pub ends_well : (items : List Item) (kept : List ℕ) (after : R) (sent : W)
-      → IsUnderWay items [] kept after sent → RequestsGive rem rf con wf all old reader writer (Ok items) kept after sent
+      → IsUnderWay items [] kept after sent →
+      RequestsGive rem rf con wf all old reader writer (Ok items) kept after sent
   ends_well items kept after sent i =
       (i.came, i.text, i.read, i.written, (λ more. i.lines more ∙ append-nil i.text), i.replies)
 
@@ -51,7 +59,8 @@ module _ {R W : Type 0} (rem : R → Option (List ℕ)) (rf : R → ℕ) (con : 
       ∙ ap (λ k. request ∷ drop k all) (sym (add-one n)) in
       subst (λ left. IsUnderWay items left kept after sent) next i
 
-module _ {R W : Type 0} (rem : R → Option (List ℕ)) (rf : R → ℕ) (con : W → Option (List ℕ)) (wf : W → ℕ)
+module _ {R W : Type 0} (rem : R → Option (List ℕ)) (rf : R → ℕ)
+    (con : W → Option (List ℕ)) (wf : W → ℕ)
     (all : List Request) (old : List ℕ) (reader : R) (writer : W) (items : List Item) (request : Request)
     (left : List Request) (kept : List ℕ) (mid : R) (middle : W)
     (i : IsUnderWay rem rf con wf all old reader writer items (request ∷ left) kept mid middle) where
@@ -69,7 +78,8 @@ module _ {R W : Type 0} (rem : R → Option (List ℕ)) (rf : R → ℕ) (con : 
 
   -- one request more is granted
   pub goes_further : (new : List ℕ) (after : R) (sent : W) (next : List Item)
-      → AskGives rem rf con wf request kept mid middle (Ok next) new after sent → IsUnderWay rem rf con wf all old reader writer next left new after sent
+      → AskGives rem rf con wf request kept mid middle (Ok next) new after sent →
+      IsUnderWay rem rf con wf all old reader writer next left new after sent
   goes_further new after sent next a = let o = a.1 in record {
     came = i.came ++ o.0;
     text = i.text ++ request_line request;
@@ -89,10 +99,12 @@ module _ {R W : Type 0} (rem : R → Option (List ℕ)) (rf : R → ℕ) (con : 
   abbrev Reads : List ℕ → Reply → Type 0
   Reads bs r = (sent_lines all (old ++ bs) ≡ i.text ++ request_line request) × (last_reply all (old ++ bs) ≡ r)
 
-  read_so : (bs : List ℕ) (r : Reply) → reply request (kept ++ bs) ≡ r → lines_behind r (λ rest. sent_lines left rest) ≡ []
+  read_so : (bs : List ℕ) (r : Reply) → reply request (kept ++ bs) ≡ r →
+      lines_behind r (λ rest. sent_lines left rest) ≡ []
       → reply_behind r (λ later rest. last_reply_after later left rest) ≡ r → Reads (i.came ++ bs) r
   read_so bs r e none same = (
-    lines_after bs r e ∙ ap (λ t. (i.text ++ request_line request) ++ t) none ∙ append-nil (i.text ++ request_line request),
+    lines_after bs r e ∙ ap (λ t. (i.text ++ request_line request) ++ t) none ∙
+        append-nil (i.text ++ request_line request),
     replies_after bs r e ∙ same,
   )
 

@@ -31,8 +31,8 @@ abbrev pub why_line : Program → List ℕ → List ℕ
 why_line program [] = []
 why_line program (b ∷ why) = name_of program ++ (codes ": " ++ (b ∷ why ++ 10 ∷ []))
 
--- The status is the fault's, and the fault's line is sent, and the one that says why, whether or not
--- all of it is taken.
+-- The status is the fault's, and the fault's line is sent, and the one that says why, whether or
+-- not all of it is taken.
 abbrev pub Reports : {E : Type 0} → (E → Option (List ℕ)) → (E → ℕ) → Program → ClientFault
     → List ℕ → E → ℕ → E → Type 0
 Reports contents failures program fault why err status after =

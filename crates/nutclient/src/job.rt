@@ -108,7 +108,8 @@ fn variable_job(ups: &str, name: &str) -> Result<Job, Part>
 
 /// How far the order of an id has come, by the server of a UPS.
 fn tracked_job(ups: &str, id: &str) -> Result<Job, Part>
-    ensures { option_map parts_of (result_ok result) ≡ tracked_of (ups_place_of ups.now) (read_id id.now) }
+    ensures { option_map parts_of (result_ok result)
+        ≡ tracked_of (ups_place_of ups.now) (read_id id.now) }
 {
     let (_, target) = place(ups)?;
     let id = read_id(id.as_bytes()).ok_or(Part::Id)?;

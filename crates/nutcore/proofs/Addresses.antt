@@ -21,7 +21,8 @@ IsLawfulAddress address = IsTrue (is_address address)
 
 pub addresses_kept : IsKept HaveLawfulAddresses IsLawfulAddress
 addresses_kept = kept_apart HaveLawfulAddresses IsLawfulAddress (record {
-  puts = λ s c x y found same h. each_put HasLawfulAddress y (subst IsLawfulAddress (sym same) (each_found HasLawfulAddress c s.sessions x found h)) s.sessions h;
+  puts = λ s c x y found same h. each_put HasLawfulAddress y
+      (subst IsLawfulAddress (sym same) (each_found HasLawfulAddress c s.sessions x found h)) s.sessions h;
   others = λ s moment upses tracking h. h;
   opens = λ s address room own h. each_last HasLawfulAddress (new_session s.next_id address) own s.sessions h;
   closes = λ s c h. each_without HasLawfulAddress c s.sessions h;
@@ -43,11 +44,20 @@ new_addresses_lawful list users descriptions max_age = All-nil HasLawfulAddress
 
 pub run_addresses_lawful : EveryRunKeepsAddressesLawful
 run_addresses_lawful old new events outcomes r own h =
-    all_of new.sessions (by_run HaveLawfulAddresses IsLawfulAddress addresses_kept old new events outcomes r own (each_of old.sessions h))
+    all_of new.sessions (by_run HaveLawfulAddresses IsLawfulAddress addresses_kept old new events
+    outcomes r own (each_of old.sessions h))
 
 -- the list
 pub list_kept : (list : List Ups) → IsKept (λ s. s.list ≡ list) IsAny
-list_kept list = kept_apart (λ s. s.list ≡ list) IsAny (record { puts = λ s c x y found same h. h; others = λ s moment upses tracking h. h; opens = λ s address room own h. h; closes = λ s c h. h })
+list_kept list = kept_apart (λ s. s.list ≡ list) IsAny
+    (record {
+      puts = λ s c x y found same h. h;
+      others = λ s moment upses tracking h. h;
+      opens =
+          λ s address room own h. h;
+      closes = λ s c h. h;
+    })
 
 pub run_keeps_list : EveryRunKeepsTheList
-run_keeps_list old new events outcomes r = by_run (λ s. s.list ≡ old.list) IsAny (list_kept old.list) old new events outcomes r (any_event events) refl
+run_keeps_list old new events outcomes r =
+    by_run (λ s. s.list ≡ old.list) IsAny (list_kept old.list) old new events outcomes r (any_event events) refl

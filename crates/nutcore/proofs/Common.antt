@@ -2,7 +2,9 @@
 use Rattle.std.proofs.Common.{◌≡◌, Bool, true, false}
 pub use Rattle.std.specs.Prelude.{slice_get}
 pub use Rattle.std.specs.Option.{option_map, option_map_or}
-pub use Rattle.std.proofs.lemmas.Bool.{cond_both, cond-true, cond-false, and_from, and_parts, or_parts, eqb-true, eqb-false, le-leb, lt-leb, ltb-true, leb-true}
+pub use Rattle.std.proofs.lemmas.Bool.{cond_both, cond-true, cond-false, and_from, and_parts}
+pub use Rattle.std.proofs.lemmas.Bool.{or_parts, eqb-true, eqb-false, le-leb, lt-leb, ltb-true}
+pub use Rattle.std.proofs.lemmas.Bool.{leb-true}
 pub use Rattle.std.proofs.lemmas.Option.{same_Some, slice_get-map, slice_get_within, slice_get_read}
 pub use Rattle.std.proofs.lemmas.Grind.{flat_map-append}
 pub use Rattle.std.proofs.lemmas.List.{take-append-drop, length-map, length-replicate}
@@ -14,7 +16,8 @@ pub use Rattle.nutcore.specs.declared.event.Outcome.{Outcome}
 pub use Rattle.nutcore.specs.Session.{SessionState}
 pub use Rattle.nutcore.specs.Ups.{UpsState}
 pub use Rattle.nuttracking.specs.Tracking.{TrackingState}
-pub use Rattle.nutcore.specs.Server.{ServerState, session, ups_at, changed_at, with_session, with_session_changed, with_ups_changed, with_tracking}
+pub use Rattle.nutcore.specs.Server.{ServerState, session, ups_at, changed_at, with_session}
+pub use Rattle.nutcore.specs.Server.{with_session_changed, with_ups_changed, with_tracking}
 pub use Rattle.nutcore.specs.Step.{Step, after}
 pub use Rattle.nutcore.specs.Run.{Run}
 

@@ -1,6 +1,8 @@
 -- Each event of a driver, over plain states.
-use Rattle.std.proofs.Common.{◌≡◌, ℕ, zero, suc, ◌<◌, Bool, true, false, List, [], ◌∷◌, Option, Some, None, Result, Ok}
-use Rattle.std.proofs.Common.{Err, refl, sym, subst, ◌∙◌, ap, arith, length, max, map, take, drop, ◌++◌, set, get_or}
+use Rattle.std.proofs.Common.{◌≡◌, ℕ, zero, suc, ◌<◌, Bool, true, false, List, []}
+use Rattle.std.proofs.Common.{◌∷◌, Option, Some, None, Result, Ok}
+use Rattle.std.proofs.Common.{Err, refl, sym, subst, ◌∙◌, ap, arith, length, max, map, take}
+use Rattle.std.proofs.Common.{drop, ◌++◌, set, get_or}
 use Rattle.std.proofs.Common.{inl}
 use Rattle.std.proofs.lemmas.Bool.Decides.{nat_tests}
 use Rattle.nutcore.proofs.Common.{option_map, cond-true, slice_get_within, UpsId, TrackingState, Fault, ServerState}
@@ -28,7 +30,8 @@ use Rattle.nutcore.proofs.OneEvent.{Refuses}
 abbrev pub IsThere : ServerState → UpsId → Bool → Type 0
 IsThere s u b = Stands u.place s.upses (λ x. x.report.connected ≡ b)
 
-pub is_there : (s : ServerState) (u : UpsId) (b : Bool) → option_map is_connected (ups_at u.place s) ≡ Some b → IsThere s u b
+pub is_there : (s : ServerState) (u : UpsId) (b : Bool) →
+    option_map is_connected (ups_at u.place s) ≡ Some b → IsThere s u b
 is_there s u b h = grind arith
 
 pub there_within : (s : ServerState) (u : UpsId) (b : Bool) → IsThere s u b → u.place < length s.upses
@@ -105,21 +108,25 @@ took_does {s} {u} {n} {x} y r at taken =
 -- what it reported, and what is noted of it
 pub bytes_do : {s : ServerState} {u : UpsId} {piece : List ℕ} {x y : UpsState} {r : Result (Unit {0}) Fault}
     {n n' : List Note} {t : TrackingState} → Stood s u x true
-    → Reports s.max_age s.moment u (x.unfinished ++ piece) x s.tracking n r y t n' → Step s (DriverBytes u piece) (done r) (with_tracking t (in_place s u y))
+    → Reports s.max_age s.moment u (x.unfinished ++ piece) x s.tracking n r y t n' →
+    Step s (DriverBytes u piece) (done r) (with_tracking t (in_place s u y))
 unfolding outcome_of after_by MayLackMemory after_driver_bytes lines_read
 bytes_do {s} {u} {piece} {x} {y} {r} {n} {n'} {t} at h = record { allowed = allowed r h.answers; leaves = leaves }
   where
     m : Option ℕ
     m = refused_after (done r)
 
-    allowed : (r : Result (Unit {0}) Fault) → IsAnswered s.moment u.place s.tracking (x.unfinished ++ piece) x r → MayAnswer s (DriverBytes u piece) (done r)
+    allowed : (r : Result (Unit {0}) Fault) →
+        IsAnswered s.moment u.place s.tracking (x.unfinished ++ piece) x r →
+        MayAnswer s (DriverBytes u piece) (done r)
     allowed r answers = grind arith
 
     leaves : with_tracking t (in_place s u y) ≡ after s (DriverBytes u piece) (done r)
     leaves =
         let f : UpsState → UpsState = ups_after_bytes s.moment u.place s.tracking piece m in
         let same : y ≡ f x = h.leaves ∙ sym (cond-true _ _ _ at.is) in
-        let lines : lines_read u piece m s ≡ as_far m (whole_lines (x.unfinished ++ piece)) = rw (at.there, at.is) refl
+        let lines : lines_read u piece m s ≡ as_far m (whole_lines (x.unfinished ++ piece)) =
+        rw (at.there, at.is) refl
         in
         ap (with_tracking t) (server_set s u f x y at.there same) ∙ ap
         (λ (k : TrackingState). with_tracking k (with_ups_changed f u s))
@@ -137,11 +144,16 @@ unfolding outcome_of after_by
 tick_done s t seconds e = record { allowed = inl refl; leaves = e }
 
 -- one more of a list's elements is changed, those before it being so already
-pub changed_so_far : (f : UpsState → UpsState) (p : ℕ) (xs : List UpsState) (x : UpsState) → p < length xs → x ≡ get_or (map f (take p xs) ++ drop p xs) p x → set (map f (take p xs) ++ drop p xs) p (f x) ≡ map f (take (suc p) xs) ++ drop (suc p) xs
+pub changed_so_far : (f : UpsState → UpsState) (p : ℕ) (xs : List UpsState) (x : UpsState) →
+    p < length xs → x ≡ get_or (map f (take p xs) ++ drop p xs) p x →
+    set (map f (take p xs) ++ drop p xs) p (f x) ≡ map f (take (suc p) xs) ++ drop (suc p) xs
 changed_so_far f p [] x lt e = absurd (omega arith)
 changed_so_far f zero (y ∷ xs) x lt e = ap (λ (z : UpsState). f z ∷ xs) e
-changed_so_far f (suc p) (y ∷ xs) x lt e = ap (λ (zs : List UpsState). f y ∷ zs) (changed_so_far f p xs x (omega (arith, lt)) e)
+changed_so_far f (suc p) (y ∷ xs) x lt e =
+    ap (λ (zs : List UpsState). f y ∷ zs) (changed_so_far f p xs x (omega (arith, lt)) e)
 
-pub ticked_is : (s : ServerState) (seconds moment age : ℕ) (xs : List UpsState) → moment ≡ max seconds s.moment → age ≡ s.max_age → xs ≡ map (after_tick age moment) s.upses → (let code : ServerState = record s { moment = moment; upses = xs } in code ≡ ticked seconds s)
+pub ticked_is : (s : ServerState) (seconds moment age : ℕ) (xs : List UpsState) → moment ≡
+    max seconds s.moment → age ≡ s.max_age → xs ≡ map (after_tick age moment) s.upses →
+    (let code : ServerState = record s { moment = moment; upses = xs } in code ≡ ticked seconds s)
 unfolding ticked
 ticked_is s seconds moment age xs em ea exs = grind arith

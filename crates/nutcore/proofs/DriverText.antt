@@ -5,6 +5,7 @@ use Rattle.nutcore.specs.Ups.{ups_after_bytes}
 use Rattle.nutcore.specs.Step.{changed_both, lines_read, after_driver_bytes}
 
 pub bytes_change : (u : UpsId) (piece : List ℕ) (refused : Option ℕ) (s : ServerState)
-    → after_driver_bytes u piece refused s ≡ changed_both (ups_after_bytes s.moment u.place s.tracking piece refused) (lines_read u piece refused s) u s
+    → after_driver_bytes u piece refused s ≡
+    changed_both (ups_after_bytes s.moment u.place s.tracking piece refused) (lines_read u piece refused s) u s
 unfolding after_driver_bytes
 bytes_change u piece refused s = refl

@@ -1,5 +1,6 @@
 -- Before the second that is due the clock changes nothing but the moment.
-use Rattle.std.proofs.Common.{◌≡◌, ◌∙◌, ℕ, zero, suc, ◌+◌, ◌<◌, ◌≤◌, List, [], ◌∷◌, Option, Some, None, refl, sym}
+use Rattle.std.proofs.Common.{◌≡◌, ◌∙◌, ℕ, zero, suc, ◌+◌, ◌<◌, ◌≤◌}
+use Rattle.std.proofs.Common.{List, [], ◌∷◌, Option, Some, None, refl, sym}
 use Rattle.std.proofs.Common.{ap, ap₂, subst, arith, map, max, take, slice_get}
 use Rattle.std.specs.Prelude.{min, ◌-◌, ◌^◌}
 use Rattle.std.specs.List.{cons_option}
@@ -34,10 +35,12 @@ least_at_most a b most = omega arith
 
 pub at_most : (max_age moment : ℕ) (xs : List UpsState) → due_among max_age moment xs ≤ 2 ^ 64 - 1
 at_most max_age moment [] = omega arith
-at_most max_age moment (x ∷ xs) = least_at_most (due_of max_age moment x) (due_among max_age moment xs) (at_most max_age moment xs)
+at_most max_age moment (x ∷ xs) =
+    least_at_most (due_of max_age moment x) (due_among max_age moment xs) (at_most max_age moment xs)
 
 pub due_so_far : (max_age moment p : ℕ) (xs : List UpsState) (x : UpsState) → slice_get xs p ≡ Some x
-    → due_among max_age moment (take (suc p) xs) ≡ min (due_among max_age moment (take p xs)) (due_of max_age moment x)
+    → due_among max_age moment (take (suc p) xs) ≡
+    min (due_among max_age moment (take p xs)) (due_of max_age moment x)
 due_so_far max_age moment p [] x e = absurd (cc)
 due_so_far max_age moment zero (y ∷ ys) x e =
     let same : y ≡ x = cc in
@@ -46,11 +49,13 @@ due_so_far max_age moment zero (y ∷ ys) x e =
     turned : (a b : ℕ) → min a b ≡ min b a
     turned a b = omega arith
 due_so_far max_age moment (suc p) (y ∷ ys) x e =
-    least_and_one (due_of max_age moment y) (due_among max_age moment (take (suc p) ys)) (due_among max_age moment (take p ys)) (due_of max_age moment x)
+    least_and_one (due_of max_age moment y) (due_among max_age moment (take (suc p) ys))
+    (due_among max_age moment (take p ys)) (due_of max_age moment x)
     (due_so_far max_age moment p ys x e)
 
 -- a UPS before its second: it isn't pinged, and its data are as they were
-unpinged : (max_age moment early : ℕ) (x : UpsState) → 3 ≤ max_age → moment < early → early < due_of max_age moment x
+unpinged : (max_age moment early : ℕ) (x : UpsState) → 3 ≤ max_age → moment < early →
+    early < due_of max_age moment x
     → after_tick max_age early x ≡ x
 unpinged max_age moment early x some later before = grind (arith, nat_tests)
 
@@ -68,24 +73,31 @@ unnoted : (u : UpsId) (was is : DataState) → is ≡ was → data_note u was is
 unnoted u was is same = subst (λ (d : DataState). data_note u was d ≡ None) (sym same) (of_itself u was)
 
 module _ (max_age moment early : ℕ) (some : 3 ≤ max_age) (later : moment < early) where
-  all_unpinged : (xs : List UpsState) → early < due_among max_age moment xs → map (after_tick max_age early) xs ≡ xs
+  all_unpinged : (xs : List UpsState) → early < due_among max_age moment xs →
+      map (after_tick max_age early) xs ≡ xs
   all_unpinged [] before = refl
   all_unpinged (x ∷ xs) before = ap₂ (λ (y : UpsState) (ys : List UpsState). y ∷ ys)
-      (unpinged max_age moment early x some later (first_of early (due_of max_age moment x) (due_among max_age moment xs) before))
+      (unpinged max_age moment early x some later
+      (first_of early (due_of max_age moment x) (due_among max_age moment xs) before))
       (all_unpinged xs (others_of early (due_of max_age moment x) (due_among max_age moment xs) before))
 
-  all_unnoted : (place : ℕ) (xs : List UpsState) → early < due_among max_age moment xs → tick_notes max_age moment early place xs ≡ []
+  all_unnoted : (place : ℕ) (xs : List UpsState) → early < due_among max_age moment xs →
+      tick_notes max_age moment early place xs ≡ []
   all_unnoted place [] before = refl
   all_unnoted place (x ∷ xs) before = ap₂ (λ (o : Option Note) (notes : List Note). cons_option o notes)
       (unnoted (id_at place) (data_state_of max_age moment x) (data_state_of max_age early x)
-      (same_state max_age moment early x later (first_of early (due_of max_age moment x) (due_among max_age moment xs) before)))
+      (same_state max_age moment early x later
+      (first_of early (due_of max_age moment x) (due_among max_age moment xs) before)))
       (all_unnoted (suc place) xs (others_of early (due_of max_age moment x) (due_among max_age moment xs) before))
 
   noted_later : (late place : ℕ) (xs : List UpsState) → early < due_among max_age moment xs
       → tick_notes max_age early late place xs ≡ tick_notes max_age moment late place xs
   noted_later late place [] before = refl
-  noted_later late place (x ∷ xs) before = ap₂ (λ (d : DataState) (notes : List Note). cons_option (data_note (id_at place) d (data_state_of max_age late x)) notes)
-      (same_state max_age moment early x later (first_of early (due_of max_age moment x) (due_among max_age moment xs) before))
+  noted_later late place (x ∷ xs) before =
+      ap₂ (λ (d : DataState) (notes : List Note). cons_option
+      (data_note (id_at place) d (data_state_of max_age late x)) notes)
+      (same_state max_age moment early x later
+      (first_of early (due_of max_age moment x) (due_among max_age moment xs) before))
       (noted_later late (suc place) xs (others_of early (due_of max_age moment x) (due_among max_age moment xs) before))
 
 pub nothing_is_due : NothingDueIsSleptOver

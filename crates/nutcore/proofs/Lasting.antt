@@ -1,6 +1,8 @@
 -- What never goes back.
 use Rattle.nutcore.proofs.Common.{never_both}
-use Rattle.std.proofs.Common.{◌≡◌, ℕ, ◌+◌, ◌<◌, ◌≤◌, true, false, List, Option, Some, None, refl, sym, ◌∙◌, ap, subst, IfSome, drop, inl, inr, ◌⊎◌, arith}
+use Rattle.std.proofs.Common.{◌≡◌, ℕ, ◌+◌, ◌<◌, ◌≤◌, true, false, List}
+use Rattle.std.proofs.Common.{Option, Some, None, refl, sym, ◌∙◌, ap, subst, IfSome, drop}
+use Rattle.std.proofs.Common.{inl, inr, ◌⊎◌, arith}
 use Rattle.std.proofs.lemmas.List.{drop-drop}
 use Rattle.nutusers.specs.declared.ups_list.UpsId.{UpsId}
 use Rattle.nutanswer.specs.declared.reply.Change.TheVariants as changes
@@ -23,7 +25,8 @@ use Rattle.nutcore.proofs.Rows.{comes_of_line}
 
 -- what a line, bytes that come and go, and a notice keep of a session
 pub record IsLasting (IsSo : SessionState → Type 0) : Type 0 where
-  pub line : (s : ServerState) (c : ℕ) (line : List ℕ) (n : IsNext s c line) → IsSo n.asking → IsSo (session_after s c line n.asking)
+  pub line : (s : ServerState) (c : ℕ) (line : List ℕ) (n : IsNext s c line) →
+      IsSo n.asking → IsSo (session_after s c line n.asking)
   pub joins : (piece : List ℕ) (x : SessionState) → IsSo x → IsSo (joined piece x)
   pub gives : (n : ℕ) (x : SessionState) → IsSo x → IsSo (taken_from n x)
   pub notice : (x : SessionState) → x.ending ≡ false → IsSo x → IsSo (notified x)
@@ -35,7 +38,8 @@ IsThere IsSo p = (p.used ≡ true) × IfSome p.session IsSo
 is_going : (x : SessionState) → holds_overlong x ≡ true → x.ending ≡ false
 is_going x long = grind arith
 
-stays_there : (IsSo : SessionState → Type 0) → IsLasting IsSo → IsOfClient (λ p xs taken asked q. IsThere IsSo p → IsThere IsSo q)
+stays_there : (IsSo : SessionState → Type 0) → IsLasting IsSo →
+    IsOfClient (λ p xs taken asked q. IsThere IsSo p → IsThere IsSo q)
 stays_there IsSo lasting = record {
   joins = λ p q r xs ys k k' a a' f g h. g (f h);
   stays = λ o u v up h. (up h.0, h.1);
@@ -47,11 +51,15 @@ stays_there IsSo lasting = record {
   closes = λ x u h. (h.0, tt);
 }
 
-lasts_where : (IsSo : SessionState → Type 0) → IsLasting IsSo → (old new : ServerState) (es : List Event) (os : List Outcome) (c : ℕ) → Run old es os new → c < old.next_id → IfSome (session c old) IsSo → IfSome (session c new) IsSo
-lasts_where IsSo lasting old new es os c run lt so = (of_run_of_client _ (stays_there IsSo lasting) c old new es os run (lt-ltb _ _ lt, so)).1
+lasts_where : (IsSo : SessionState → Type 0) → IsLasting IsSo →
+    (old new : ServerState) (es : List Event) (os : List Outcome) (c : ℕ) →
+    Run old es os new → c < old.next_id → IfSome (session c old) IsSo → IfSome (session c new) IsSo
+lasts_where IsSo lasting old new es os c run lt so =
+    (of_run_of_client _ (stays_there IsSo lasting) c old new es os run (lt-ltb _ _ lt, so)).1
 
 lasts : (IsSo : SessionState → Type 0) → IsLasting IsSo → Lasts IsSo
-lasts IsSo lasting old new es os c x run lt found so = lasts_where IsSo lasting old new es os c run lt (subst (λ o. IfSome o IsSo) (sym found) so)
+lasts IsSo lasting old new es os c x run lt found so =
+    lasts_where IsSo lasting old new es os c run lt (subst (λ o. IfSome o IsSo) (sym found) so)
 
 -- a name that was given
 never_fresh : {A : Type 0} (o : Option A) (a : A) → o ≡ Some a → o ≡ None → ⊥
@@ -61,7 +69,9 @@ username_lasts : (name : List ℕ) → IsLasting (λ x. x.username ≡ Some name
 username_lasts name = record {
   line = λ s c line n so. elim (keeps (change_at s c line) (answered line (reply s c line) n.asking)).username [
     | inl same ↦ same ∙ so
-    | inr (given, is, e) ↦ absurd (never_fresh n.asking.username name so (sym (ap (λ o. (asker_of o).username) n.found) ∙ (comes_of_line s c line (changes.Username given) refl is).row.fresh))
+    | inr (given, is, e) ↦ absurd (never_fresh n.asking.username name so
+        (sym (ap (λ o. (asker_of o).username) n.found) ∙
+        (comes_of_line s c line (changes.Username given) refl is).row.fresh))
   ];
   joins = λ piece x so. so;
   gives = λ n x so. so;
@@ -72,7 +82,9 @@ password_lasts : (word : List ℕ) → IsLasting (λ x. x.password ≡ Some word
 password_lasts word = record {
   line = λ s c line n so. elim (keeps (change_at s c line) (answered line (reply s c line) n.asking)).password [
     | inl same ↦ same ∙ so
-    | inr (given, is, e) ↦ absurd (never_fresh n.asking.password word so (sym (ap (λ o. (asker_of o).password) n.found) ∙ (comes_of_line s c line (changes.Password given) refl is).row.fresh))
+    | inr (given, is, e) ↦ absurd (never_fresh n.asking.password word so
+        (sym (ap (λ o. (asker_of o).password) n.found) ∙
+        (comes_of_line s c line (changes.Password given) refl is).row.fresh))
   ];
   joins = λ piece x so. so;
   gives = λ n x so. so;
@@ -91,8 +103,12 @@ login_lasts u = record {
         | inl ends ↦ never_both x.ending ends n.going
         | inr is_in ↦ elim kept.login [
           | inl same ↦ inr (same ∙ is_in)
-          | inr (inl gone) ↦ elim (kept.logged_out gone) [ inl before ↦ absurd (never_fresh x.login u is_in before) | inr ends ↦ inl ends ]
-          | inr (inr (v, is, e)) ↦ absurd (never_fresh x.login u is_in (sym (ap (λ o. (asker_of o).login) n.found) ∙ (comes_of_line s c line (changes.Login v) refl is).row.fresh))
+          | inr (inl gone) ↦ elim (kept.logged_out gone)
+              [ inl before ↦ absurd (never_fresh x.login u is_in before) | inr ends ↦ inl ends ]
+          | inr (inr (v, is, e)) ↦ absurd
+              (never_fresh x.login u is_in
+              (sym (ap (λ o. (asker_of o).login) n.found) ∙
+              (comes_of_line s c line (changes.Login v) refl is).row.fresh))
         ]
       ];
   joins = λ piece x so. so;
@@ -104,13 +120,24 @@ ending_lasts : (owed : List ℕ) → IsLasting (IsEnding owed)
 ending_lasts owed = record {
   line = λ s c line n so. never_both n.asking.ending so.ends n.going;
   joins = λ piece x so. record { ends = so.ends; taken = so.taken; rest = so.rest };
-  gives = λ n x so. record { ends = so.ends; taken = so.taken + n; rest = ap (drop n) so.rest ∙ drop-drop n so.taken owed };
+  gives = λ n x so. record {
+    ends = so.ends;
+    taken = so.taken + n;
+    rest = ap (drop n) so.rest ∙
+        drop-drop n so.taken owed;
+  };
   notice = λ x going so. never_both x.ending so.ends going;
 }
 
 -- a session that isn't there
 none_lasting : IsLasting (λ x. ⊥)
-none_lasting = record { line = λ s c line n so. so; joins = λ piece x so. so; gives = λ n x so. so; notice = λ x going so. so }
+none_lasting = record {
+  line = λ s c line n so. so;
+  joins = λ piece x so. so;
+  gives =
+      λ n x so. so;
+  notice = λ x going so. so;
+}
 
 no_one : (o : Option SessionState) → IfSome o (λ x. ⊥) → o ≡ None
 no_one o h = grind arith
@@ -121,6 +148,9 @@ never_back = record {
   password = λ word. lasts (λ x. x.password ≡ Some word) (password_lasts word);
   login = λ u. lasts (IsIn u) (login_lasts u);
   ending = λ owed. lasts (IsEnding owed) (ending_lasts owed);
-  closed = λ old new events outcomes c run lt gone. no_one (session c new) (lasts_where (λ x. ⊥) none_lasting old new events outcomes c run lt (subst (λ o. IfSome o (λ x. ⊥)) (sym gone) tt));
-  ids = λ old new events outcomes run. by_run (λ s. old.next_id ≤ s.next_id) IsAny (ids_kept old.next_id) old new events outcomes run (any_event events) (omega arith);
+  closed = λ old new events outcomes c run lt gone. no_one (session c new)
+      (lasts_where (λ x. ⊥) none_lasting old new events outcomes c run lt
+      (subst (λ o. IfSome o (λ x. ⊥)) (sym gone) tt));
+  ids = λ old new events outcomes run. by_run (λ s. old.next_id ≤ s.next_id) IsAny
+      (ids_kept old.next_id) old new events outcomes run (any_event events) (omega arith);
 }

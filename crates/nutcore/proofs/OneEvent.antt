@@ -1,5 +1,6 @@
 -- One event of a running server, which forgets first what the last one cost and did.
-use Rattle.std.proofs.Common.{◌≡◌, ◌∙◌, ℕ, Bool, true, [], ◌∷◌, Option, Some, None, Result, Err, refl, sym, ap, subst}
+use Rattle.std.proofs.Common.{◌≡◌, ◌∙◌, ℕ, Bool, true, [], ◌∷◌, Option, Some}
+use Rattle.std.proofs.Common.{None, Result, Err, refl, sym, ap, subst}
 use Rattle.std.proofs.Common.{arith, take, inl, inr, IsErrAnd}
 use Rattle.std.proofs.lemmas.Result.{err_from_is_err_and}
 use Rattle.nutcore.proofs.Common.{Event, Fault, Outcome, ServerState, SessionState, UpsId, session, ups_at, Step}
@@ -87,7 +88,8 @@ refused_event {old} {v} e fault begins sound h =
 -- and where `?` hands the fault on
 pub handed_on : {A : Type 0} {old v : RunningServer} (e : Event) (out : Result A Fault → Outcome) (r : Result A Fault)
     {fault : Fault} → ((f : Fault) → out (Err f) ≡ Refused f)
-    → IsErrAnd r (λ f. f ≡ fault) → v ≡ begun old.state → IsSound v.state → Refuses v.state e fault → IsEvent old e
+    → IsErrAnd r (λ f. f ≡ fault) → v ≡ begun old.state → IsSound v.state →
+    Refuses v.state e fault → IsEvent old e
     (out r) v
 handed_on {A} {old} {v} e out r {fault} outs err begins sound h =
     let p = err_from_is_err_and r err in
@@ -95,7 +97,8 @@ handed_on {A} {old} {v} e out r {fault} outs err begins sound h =
     (refused_event e fault begins sound h)
 
 -- a client that isn't there
-pub no_client : (s : ServerState) (c : ℕ) (e : Event) (fault : Fault) → (fault ≡ NoSuchClient) × (session c s ≡ None)
+pub no_client : (s : ServerState) (c : ℕ) (e : Event) (fault : Fault) →
+    (fault ≡ NoSuchClient) × (session c s ≡ None)
     → client_of e ≡ Some c → Refuses s e fault
 unfolding outcome_of
 no_client s c e fault (is, none) its = record { is = refuses e its; harmless = ap is_harmless is }
@@ -107,7 +110,8 @@ no_client s c e fault (is, none) its = record { is = refuses e its; harmless = a
     refuses e its = cc its
 
 -- a UPS that isn't there, or has no driver
-pub no_ups : (s : ServerState) (u : UpsId) (e : Event) (fault : Fault) → (fault ≡ NoSuchUps) × (ups_at u.place s ≡ None)
+pub no_ups : (s : ServerState) (u : UpsId) (e : Event) (fault : Fault) → (fault ≡ NoSuchUps) ×
+    (ups_at u.place s ≡ None)
     → ups_of e ≡ Some u → Refuses s e fault
 unfolding outcome_of
 no_ups s u e fault (is, none) its = record { is = refuses e its; harmless = ap is_harmless is }

@@ -1,5 +1,6 @@
 -- What a line changes comes of its command, where the checks of its row held.
-use Rattle.std.proofs.Common.{◌≡◌, ◌∙◌, ℕ, Bool, true, false, List, Option, Some, Result, Ok, refl, ap, subst}
+use Rattle.std.proofs.Common.{◌≡◌, ◌∙◌, ℕ, Bool, true, false, List, Option, Some}
+use Rattle.std.proofs.Common.{Result, Ok, refl, ap, subst}
 use Rattle.nutusers.specs.declared.rights.Right.{Right}
 use Rattle.nutcore.proofs.Common.{UpsId, Change, ServerState}
 use Rattle.nutparse.specs.declared.command.Command.{Command}
@@ -23,15 +24,26 @@ pub record ComesOfLine (s : ServerState) (c : ℕ) (line : List ℕ) (change : C
   pub read : read_command line ≡ Ok (Some command)
   pub row : ComesOf (seen s) (asker c s) command change
 
-pub comes_of_line : (s : ServerState) (c : ℕ) (line : List ℕ) (change : Change) → changes_something change ≡ true → change_by s c (read_command line) ≡ change → ComesOfLine s c line change
+pub comes_of_line : (s : ServerState) (c : ℕ) (line : List ℕ) (change : Change) →
+    changes_something change ≡ true → change_by s c (read_command line) ≡ change → ComesOfLine s c line change
 comes_of_line s c line change some is = by_read (read_command line) refl is
   where
-    by_read : (r : Result (Option Command) ErrWord) → read_command line ≡ r → change_by s c r ≡ change → ComesOfLine s c line change
-    by_read (Ok (Some command)) e h = record { command = command; read = e; row = subst (ComesOf (seen s) (asker c s) command) h (each_change_comes_of_its_command (seen s) (asker c s) command) }
+    by_read : (r : Result (Option Command) ErrWord) → read_command line ≡ r →
+        change_by s c r ≡ change → ComesOfLine s c line change
+    by_read (Ok (Some command)) e h =
+        record {
+          command = command;
+          read = e;
+          row =
+              subst (ComesOf (seen s) (asker c s) command) h
+              (each_change_comes_of_its_command (seen s) (asker c s) command);
+        }
     by_read r e h = cc (some, h)
 
 -- a row that is by right, as its line has it
-unfoldable pub by_right : (s : ServerState) (c : ℕ) (line : List ℕ) (command : Command) (of_ups : Option (List ℕ) → Command) (right : Right) (words : List (List ℕ)) (u : UpsId) → read_command line ≡ Ok (Some command)
+unfoldable pub by_right : (s : ServerState) (c : ℕ) (line : List ℕ) (command : Command)
+    (of_ups : Option (List ℕ) → Command) (right : Right) (words : List (List ℕ)) (u : UpsId)
+    → read_command line ≡ Ok (Some command)
     → IsRowByRight (seen s) (asker c s) command of_ups right words u → IsByRight s c line of_ups right words u
 by_right s c line command of_ups right words u read row = record {
   ups = row.ups;

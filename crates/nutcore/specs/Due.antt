@@ -36,8 +36,8 @@ due_among max_age moment (x ∷ xs) = min (due_of max_age moment x) (due_among m
 abbrev pub due_second : ServerState → ℕ
 due_second s = max (min (s.moment + 1) never) (due_among s.max_age s.moment s.upses)
 
--- A tick at the early second changes nothing but the moment, and notes nothing; and where it is left
--- out, the late one makes the same server, and notes the same.
+-- A tick at the early second changes nothing but the moment, and notes nothing; and where it is
+-- left out, the late one makes the same server, and notes the same.
 pub record IsSleptOver (s : ServerState) (early late : ℕ) : Type 0 where
   pub moment : ticked early s ≡ record s { moment = early }
   pub notes : all_notes s (Tick early) None ≡ []

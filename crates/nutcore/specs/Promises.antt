@@ -61,8 +61,8 @@ abbrev pub IsFront : Option ℕ → List ℕ → Type 0
 IsFront None piece = Unit {0}
 IsFront (Some n) piece = (n ≤ length piece) × (n ≤ LINE_LIMIT)
 
--- What a line of its driver does: it is done, settles the order that it reports on, and is noted; and
--- nothing is held.
+-- What a line of its driver does: it is done, settles the order that it reports on, and is noted;
+-- and nothing is held.
 pub record DoesLine (max_age moment : ℕ) (u : UpsId) (line : List ℕ) (old : UpsState)
     (orders : TrackingState) (notes : List Note) (new : UpsState) (settled : TrackingState)
     (noted : List Note) : Type 0 where
@@ -86,7 +86,8 @@ with_hearing moment x = record x { report = record x.report { heard = moment } }
 
 -- It would change the tree, and memory was refused: it was heard, no more.
 pub record LacksMemory (moment : ℕ) (line : List ℕ) (old : UpsState) (orders : TrackingState)
-    (notes : List Note) (new : UpsState) (settled : TrackingState) (noted : List Note) : Type 0 where
+    (notes : List Note) (new : UpsState) (settled : TrackingState) (noted : List Note)
+    : Type 0 where
   pub changes : line_changes old.report.tree line ≡ true
   pub heard : new ≡ with_hearing moment old
   pub settles : settled ≡ orders

@@ -32,9 +32,9 @@ pub record IsSoundSession (x : SessionState) : Type 0 where
 
 -- A UPS, at this moment: the tree that its driver reported is sound; nothing was heard or asked
 -- later than now; its driver is owed no more than it may be, and of its next line no more came than
--- a line may have, and no LF; and where no driver is connected, none has reported or been asked anything,
--- nothing came of a line, and nothing is owed: it is a new one except for a forced shutdown and the
--- count of faults.
+-- a line may have, and no LF; and where no driver is connected, none has reported or been asked
+-- anything, nothing came of a line, and nothing is owed: it is a new one except for a forced
+-- shutdown and the count of faults.
 pub record IsSoundUps (moment : ℕ) (x : UpsState) : Type 0 where
   pub tree : IsSoundTree x.report.tree
   pub heard : x.report.heard ≤ moment

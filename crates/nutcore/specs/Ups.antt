@@ -147,7 +147,8 @@ abbrev pub wants_memory_for : Option (List ℕ) → UpsState → Bool
 wants_memory_for None x = false
 wants_memory_for (Some line) x = line_changes x.report.tree line
 
--- There is a whole line after the first k of what its driver reported, and it would change the tree.
+-- There is a whole line after the first k of what its driver reported, and it would change the
+-- tree.
 abbrev pub wants_memory_at : ℕ → ℕ → TrackingState → List ℕ → ℕ → UpsState → Bool
 wants_memory_at moment place t text k x =
     wants_memory_for (slice_get (whole_lines text) k)

@@ -235,8 +235,8 @@ pub fn a_silent_driver_is_asked()
     ensures { ASilentDriverIsAsked }
 {}
 
-/// A tick before the second of `Server::due` changes nothing but the moment, and notes nothing. Where
-/// it is left out, the next tick makes the same server and notes the same.
+/// A tick before the second of `Server::due` changes nothing but the moment, and notes nothing.
+/// Where it is left out, the next tick makes the same server and notes the same.
 pub fn nothing_due_is_slept_over()
     ensures { NothingDueIsSleptOver }
 {}

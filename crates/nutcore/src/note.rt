@@ -103,8 +103,8 @@ pub struct Deed {
 /// The notes of an event.
 pub(crate) type Notes = BoundedList<Note, NOTE_LIMIT>;
 
-/// Notes the state of a UPS's data, where it was another. It is a call of its own, since inlined its
-/// room on the stack would be cleared at each line of a driver.
+/// Notes the state of a UPS's data, where it was another. It is a call of its own, since inlined
+/// its room on the stack would be cleared at each line of a driver.
 #[inline(never)]
 pub(crate) fn note_data(u: UpsId, was: DataState, is: DataState, notes: &mut Notes)
     ensures { notes.new ≡ with_note (data_note u was is) notes.old }

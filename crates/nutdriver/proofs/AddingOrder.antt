@@ -1,7 +1,10 @@
--- The enum values and ranges of a variable are what lines added and didn't take away, in the order of adding.
-use Rattle.std.proofs.Common.{◌≡◌, ℕ, Bool, true, false, cond, List, [], ◌∷◌, ◌++◌, Option, Some, None, refl, sym, ap}
+-- The enum values and ranges of a variable are what lines added and didn't take away, in the order
+-- of adding.
+use Rattle.std.proofs.Common.{◌≡◌, ℕ, Bool, true, false, cond, List, [], ◌∷◌}
+use Rattle.std.proofs.Common.{◌++◌, Option, Some, None, refl, sym, ap}
 use Rattle.std.proofs.Common.{◌∙◌, append-nil, append_assoc, length}
-use Rattle.std.specs.Prelude.{◌&&◌, ◌||◌, not, nat_le, filter, Result, Ok, Err, IfOk, IfSome, if◌then◌else◌}
+use Rattle.std.specs.Prelude.{◌&&◌, ◌||◌, not, nat_le, filter, Result, Ok, Err, IfOk}
+use Rattle.std.specs.Prelude.{IfSome, if◌then◌else◌}
 use Rattle.std.specs.List.{list_any}
 use Rattle.std.specs.Option.{option_map_or}
 use Rattle.std.specs.Str.{bytes_eq}
@@ -48,7 +51,8 @@ moved takes added xs = filter (λ x. not (takes x)) xs ++ one_if added
 module _ {X : Type 0} (adds : DriverLine → Option X) (takes : DriverLine → X → Bool) where
   -- an item that was kept before it
   item_left : (line : DriverLine) (item : X) (gone here : Bool) → takes line item ≡ here
-      → cond (gone || (here || false)) [] (item ∷ []) ≡ filter (λ x. not (takes line x)) (cond gone [] (item ∷ []))
+      → cond (gone || (here || false)) [] (item ∷ []) ≡
+      filter (λ x. not (takes line x)) (cond gone [] (item ∷ []))
   item_left line item true here is = refl
   item_left line item false true is = ap (λ b. cond (not b) (item ∷ []) []) (sym is)
   item_left line item false false is = ap (λ b. cond (not b) (item ∷ []) []) (sym is)
@@ -122,12 +126,14 @@ module _ {X : Type 0} (items : VariableState → List X) where
   Moves takes added tree after =
       (name : List ℕ) → items_at after name ≡ moved (takes name) (added name) (items_at tree name)
 
-  abbrev StepMoves : (List ℕ → X → Bool) → (List ℕ → Option X) → TreeState → Result (TreeState × Effect) DriverFault
+  abbrev StepMoves : (List ℕ → X → Bool) → (List ℕ → Option X) → TreeState →
+      Result (TreeState × Effect) DriverFault
       → Type 0
   StepMoves takes added tree step = StepDoes (Moves takes added tree) tree step
 
   -- what becomes of a variable
-  abbrev VariableMoves : (X → Bool) → Option X → VariableState → Result (Option VariableState) DriverFault → Type 0
+  abbrev VariableMoves : (X → Bool) → Option X → VariableState →
+      Result (Option VariableState) DriverFault → Type 0
   VariableMoves takes added v change =
       IfOk change (λ changed. IfSome changed (λ w. items w ≡ moved takes added (items v)))
 
@@ -172,7 +178,8 @@ module _ {X : Type 0} (items : VariableState → List X) where
     on_variable_moves this line takes added here elsewhere = by_held (variable_at tree this) refl
       where
         by_change : (v : VariableState) → variable_at tree this ≡ Some v
-            → (change : Result (Option VariableState) DriverFault) → VariableMoves (takes true) (added true) v change
+            → (change : Result (Option VariableState) DriverFault) →
+            VariableMoves (takes true) (added true) v change
             → StepMoves (λ name. takes (bytes_eq this name)) (λ name. added (bytes_eq this name)) tree
             (put_back tree this change)
         by_change v is (Err fault) h = tt
@@ -231,11 +238,13 @@ ranges v = v.ranges
 
 module _ (laws : ChangeLaws) (tree : TreeState) (rise : HasRisingKeys byte_order tree.variables) where
   values_move : (line : DriverLine)
-      → StepMoves values (λ name. takes_value name line) (λ name. added_value name line) tree (driver_step tree line)
+      → StepMoves values (λ name. takes_value name line) (λ name. added_value name line) tree
+      (driver_step tree line)
   values_move (SetInfo this value) = set_info_moves values laws tree rise this value _ refl refl (λ v. refl)
   values_move (DelInfo this) = delete_info_moves values laws tree rise this _ refl
   values_move (AddEnum this value) =
-      on_variable_moves values laws tree rise this (add_enum value) (λ b x. false) (λ b. if b then Some value else None)
+      on_variable_moves values laws tree rise this (add_enum value) (λ b x. false)
+      (λ b. if b then Some value else None)
       (λ v. added_by values (λ x. false) (Some value) v _ (pushed v.enum_values value) _ _)
       all_kept
   values_move (DelEnum this value) =
@@ -259,7 +268,8 @@ module _ (laws : ChangeLaws) (tree : TreeState) (rise : HasRisingKeys byte_order
   values_move _ = refl
 
   ranges_move : (line : DriverLine)
-      → StepMoves ranges (λ name. takes_range name line) (λ name. added_range name line) tree (driver_step tree line)
+      → StepMoves ranges (λ name. takes_range name line) (λ name. added_range name line) tree
+      (driver_step tree line)
   ranges_move (SetInfo this value) = set_info_moves ranges laws tree rise this value _ refl refl (λ v. refl)
   ranges_move (DelInfo this) = delete_info_moves ranges laws tree rise this _ refl
   ranges_move (AddEnum this value) =
@@ -274,7 +284,8 @@ module _ (laws : ChangeLaws) (tree : TreeState) (rise : HasRisingKeys byte_order
       (λ v. added_by ranges (λ x. false) (Some range) v _ (pushed v.ranges range) _ _)
       all_kept
   ranges_move (DelRange this range) =
-      on_variable_moves ranges laws tree rise this (delete_range range) (λ b x. b && is_same_range x range) (λ b. None)
+      on_variable_moves ranges laws tree rise this (delete_range range)
+      (λ b x. b && is_same_range x range) (λ b. None)
       (λ v. taken_by ranges (λ x. is_same_range x range) None v _ (left_out (λ x. is_same_range x range) v.ranges) _)
       all_kept
   ranges_move (SetAux this aux) =

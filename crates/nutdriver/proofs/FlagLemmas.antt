@@ -11,5 +11,10 @@ use Rattle.nutdriver.specs.Flags.{is_rw, is_string, is_number, is_flag}
 abbrev pub with_flags_of : Flags → List (List ℕ) → Result Flags DriverFault
 with_flags_of flags words =
     if list_all is_flag words
-    then Ok (record { rw = flags.rw || list_any is_rw words; string = flags.string || list_any is_string words; number = flags.number || list_any is_number words })
+    then Ok (record {
+      rw = flags.rw || list_any is_rw words;
+      string =
+          flags.string || list_any is_string words;
+      number = flags.number || list_any is_number words;
+    })
     else Err BadFlag

@@ -1,5 +1,6 @@
 -- What lines of a driver do to a tree, one after another.
-use Rattle.std.proofs.Common.{◌≡◌, ℕ, Bool, true, false, cond, List, [], ◌∷◌, ◌++◌, Option, Some, None, refl, sym, ap}
+use Rattle.std.proofs.Common.{◌≡◌, ℕ, Bool, true, false, cond, List, [], ◌∷◌}
+use Rattle.std.proofs.Common.{◌++◌, Option, Some, None, refl, sym, ap}
 use Rattle.std.proofs.Common.{subst, ◌∙◌, append-nil, append_assoc, true≢false}
 use Rattle.std.specs.Prelude.{◌≢◌, Result, Ok, Err, if◌then◌else◌}
 use Rattle.std.specs.Ordering.{is_eq}
@@ -27,7 +28,8 @@ use Rattle.nutdriver.specs.LastLine.{change_of, changes}
 -- nutmap's laws of a change
 pub record ChangeLaws : Type 0 where
   pub inserted : (map : List (List ℕ × VariableState)) (name : List ℕ) (v : VariableState)
-      → HasRisingKeys byte_order map → ChangesOneKey byte_order map (insert_entry byte_order map name v) name (Some v)
+      → HasRisingKeys byte_order map →
+      ChangesOneKey byte_order map (insert_entry byte_order map name v) name (Some v)
   pub removed : (map : List (List ℕ × VariableState)) (name : List ℕ) → HasRisingKeys byte_order map
       → ChangesOneKey byte_order map (remove_entry (is_at (byte_order name)) map) name None
 
@@ -42,7 +44,8 @@ apart_by o h = λ same. true≢false (sym (ap is_eq same) ∙ h)
 -- what stands at a name after one key was changed
 pub changed_key : (old new : List (List ℕ × VariableState)) (this : List ℕ) (after : Option VariableState)
     → ChangesOneKey byte_order old new this after
-    → (name : List ℕ) → value_at byte_order new name ≡ cond (bytes_eq this name) after (value_at byte_order old name)
+    → (name : List ℕ) → value_at byte_order new name ≡
+    cond (bytes_eq this name) after (value_at byte_order old name)
 changed_key old new this after one name = by_name (bytes_eq this name) refl
   where
     by_name : (b : Bool) → bytes_eq this name ≡ b
@@ -65,7 +68,8 @@ after_step_holds Holds report (Err fault) changed left m = left
 after_step_holds Holds report (Ok (after, Changed)) changed left m = changed after m
 after_step_holds Holds report (Ok (after, _)) changed left m = subst Holds (sym m) left
 
--- what holds of a tree and the lines that changed it, where each line that changes it leaves that so
+-- what holds of a tree and the lines that changed it, where each line that changes it leaves that
+-- so
 module _ (kept : EachLineKeepsTheTreeSound) (Holds : TreeState → List DriverLine → Type 0)
     (Does : TreeState → DriverLine → TreeState → Type 0)
     (steps : (tree : TreeState) → HasRisingKeys byte_order tree.variables → (line : DriverLine)

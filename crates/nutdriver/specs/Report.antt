@@ -88,8 +88,8 @@ ReportedNumbersAreLawful =
     (moment : ℕ) (report : Report) (line : List ℕ)
     → HasLawfulNumber (after_line moment report line).1
 
--- A whole line of a driver, the moment at which it is heard, and whether it reports on an order that
--- isn't awaited then.
+-- A whole line of a driver, the moment at which it is heard, and whether it reports on an order
+-- that isn't awaited then.
 pub record Heard : Type 0 where
   pub moment : ℕ
   pub line : List ℕ

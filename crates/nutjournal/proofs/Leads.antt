@@ -18,5 +18,6 @@ along all lines = fold (λ now line. after_line_of line.0 line.1 now) all lines
 pub joined : (old middle new : Tallies) → LeadsTo old middle → LeadsTo middle new → LeadsTo old new
 joined old middle new first second = record {
   lines = first.lines ++ second.lines;
-  leads = second.leads ∙ ap (λ all. along all second.lines) first.leads ∙ sym (fold-append (λ now line. after_line_of line.0 line.1 now) old first.lines second.lines);
+  leads = second.leads ∙ ap (λ all. along all second.lines) first.leads ∙
+      sym (fold-append (λ now line. after_line_of line.0 line.1 now) old first.lines second.lines);
 }

@@ -1,5 +1,6 @@
 -- What is logged and what is counted.
-use Rattle.std.proofs.Common.{◌≡◌, ℕ, ◌+◌, ◌-◌, ◌<◌, ◌≤◌, ◌^◌, max, List, [], ◌∷◌, length, arith}
+use Rattle.std.proofs.Common.{◌≡◌, ℕ, ◌+◌, ◌-◌, ◌<◌, ◌≤◌, ◌^◌, max}
+use Rattle.std.proofs.Common.{List, [], ◌∷◌, length, arith}
 use Rattle.std.specs.Prelude.{◌&&◌, ◌==◌}
 use Rattle.std.proofs.lemmas.Bool.Decides.{nat_tests}
 use Rattle.std.proofs.lemmas.List.{get_or-set_same, get_or-set_other, length-set}
@@ -8,7 +9,9 @@ use Rattle.nutjournal.specs.declared.tally.Kind.{Kind}
 use Rattle.nutjournal.specs.declared.tally.Kind.TheVariants as kinds
 use Rattle.nutjournal.specs.declared.tally.Tally.{Tally}
 use Rattle.nutjournal.specs.declared.tally.TheConstants.{LINE_LIMIT}
-use Rattle.nutjournal.specs.Tally.{after_line, after_lines, count, number, is_logged, is_same, one_if, one_more, logged_of, times, limit_of, EachLineIsLoggedOrCounted}
+use Rattle.nutjournal.specs.Tally.{after_line, after_lines, count, number, is_logged, is_same}
+use Rattle.nutjournal.specs.Tally.{one_if, one_more, logged_of, times, limit_of}
+use Rattle.nutjournal.specs.Tally.{EachLineIsLoggedOrCounted}
 
 number_below : (kind : Kind) → number kind < 13
 number_below kinds.Lost = grind arith
@@ -43,19 +46,27 @@ limit_below kinds.RefusedOrder = grind arith
 -- a count among others, one of which is raised
 raised : (more : List ℕ) (i j : ℕ) → j < length more → get_or more i 0 < 2 ^ 64 - 1
     → get_or (set more j (one_more (get_or more j 0))) i 0 ≡ get_or more i 0 + one_if (i == j)
-raised more i j below room = grind (arith, nat_tests, get_or-set_same more j (one_more (get_or more j 0)) 0, get_or-set_other more j i (one_more (get_or more j 0)) 0)
+raised more i j below room = grind (
+  arith,
+  nat_tests,
+  get_or-set_same more j (one_more (get_or more j 0)) 0,
+  get_or-set_other more j i (one_more (get_or more j 0)) 0,
+)
 
 step : (y : Tally) (kind next : Kind) → length y.more ≡ 13 → count kind y < 2 ^ 64 - 1
-    → one_if (is_same kind next && is_logged y next) + count kind (after_line y next) ≡ count kind y + one_if (is_same kind next)
+    → one_if (is_same kind next && is_logged y next) + count kind (after_line y next) ≡
+    count kind y + one_if (is_same kind next)
 step y kind next size room = grind (arith, nat_tests, raised y.more (number kind) (number next), number_below next)
 
 same_size : (y : Tally) (next : Kind) → length (after_line y next).more ≡ length y.more
 same_size y next = grind (arith, length-set y.more (number next) (one_more (count next y)))
 
-each_of : (y : Tally) (kind : Kind) (lines : List Kind) → length y.more ≡ 13 → count kind y + length lines < 2 ^ 64
+each_of : (y : Tally) (kind : Kind) (lines : List Kind) → length y.more ≡ 13 → count kind y +
+    length lines < 2 ^ 64
     → logged_of kind y lines + count kind (after_lines y lines) ≡ count kind y + times kind lines
 each_of y kind [] size room = grind arith
-each_of y kind (next ∷ later) size room = grind (arith, nat_tests, step y kind next size, same_size y next, each_of (after_line y next) kind later)
+each_of y kind (next ∷ later) size room =
+    grind (arith, nat_tests, step y kind next size, same_size y next, each_of (after_line y next) kind later)
 
 logged_most : (y : Tally) (next : Kind) → (after_line y next).logged ≤ max y.logged LINE_LIMIT
 logged_most y next = grind (arith, nat_tests, limit_below next)

@@ -1,5 +1,7 @@
 -- One after another of some items is mapped.
-use Rattle.std.proofs.Common.{◌≡◌, ◌∙◌, ℕ, zero, suc, ◌+◌, ◌<◌, List, [], ◌∷◌, ◌++◌, map, take, drop, length, slice_index_or, slice_set, refl, ap, sym, add-one, arith}
+use Rattle.std.proofs.Common.{◌≡◌, ◌∙◌, ℕ, zero, suc, ◌+◌, ◌<◌, List, []}
+use Rattle.std.proofs.Common.{◌∷◌, ◌++◌, map, take, drop, length, slice_index_or}
+use Rattle.std.proofs.Common.{slice_set, refl, ap, sym, add-one, arith}
 
 at_place : {A : Type 0} (f : A → A) (xs : List A) (i : ℕ) (d : A) → i < length xs
     → slice_set (map f (take i xs) ++ drop i xs) i (f (slice_index_or (map f (take i xs) ++ drop i xs) i d))

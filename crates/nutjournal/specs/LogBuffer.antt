@@ -16,7 +16,8 @@ one_dropped was = record was { dropped = min (was.dropped + 1) (2 ^ 64 - 1) }
 -- A line waits as the last one, ended by its LF, or is dropped.
 abbrev pub after_line : List ℕ → LogBuffer → LogBuffer
 after_line line was =
-    if has_room line was then record was { waiting = was.waiting ++ line ++ 10 ∷ [] } else one_dropped was
+    if has_room line was then record was { waiting = was.waiting ++ line ++ 10 ∷ [] }
+    else one_dropped was
 
 pub record OneLineMore (old new : LogBuffer) : Type 0 where
   pub line : List ℕ

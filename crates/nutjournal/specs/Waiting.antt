@@ -26,4 +26,5 @@ is_one_behind _ _ = false
 -- or the record has ended since.
 abbrev pub are_behind : List ℕ → Bool → Journal → Bool
 are_behind counts is_record_cut j =
-    is_one_behind counts j.counts || (if is_record_cut then not j.is_record_cut else j.is_record_cut)
+    is_one_behind counts j.counts
+    || (if is_record_cut then not j.is_record_cut else j.is_record_cut)

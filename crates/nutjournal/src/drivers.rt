@@ -42,7 +42,8 @@ impl Driver {
         self.refused = (self.refused.0.saturating_add(1), fault);
     }
 
-    /// Its data have this state from now on. Whether it has just reported all, and they aren't good.
+    /// Its data have this state from now on. Whether it has just reported all, and they aren't
+    /// good.
     pub fn turn(&mut self, state: DataState, moment: u64) -> bool
         ensures first { result ≡ is_first_stale state self.old }
         ensures after { self.new ≡ after_state state moment self.old }

@@ -72,8 +72,8 @@ impl Journal {
     }
 
     /// Logs the notes of the server's last event, or counts them. Where a second begins, it first
-    /// logs what was counted, and all else. Where neither is so it does nothing. The answer is whether
-    /// more is to be logged, for which it is to be called in the next second.
+    /// logs what was counted, and all else. Where neither is so it does nothing. The answer is
+    /// whether more is to be logged, for which it is to be called in the next second.
     ///
     /// `error_of` gives the number of the system's error by which the driver of a UPS couldn't be
     /// connected to. `counts` are, since the start, the clients that were sent away for want of

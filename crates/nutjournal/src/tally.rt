@@ -21,8 +21,8 @@ pub const LOSS_LIMIT: u64 = 2;
 /// In seconds.
 pub const MINUTE: u64 = 60;
 
-/// Whether another minute has begun since the second in which the journal was written last, whatever
-/// seconds the clock skipped.
+/// Whether another minute has begun since the second in which the journal was written last,
+/// whatever seconds the clock skipped.
 pub fn begins_minute(was: Option<u64>, now: u64) -> bool
     ensures { result ≡ begins_minute was now }
 {

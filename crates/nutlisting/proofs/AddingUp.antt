@@ -7,7 +7,8 @@ use Rattle.nutlisting.proofs.Counting.{leaves_open-append, lines-append, lines-l
 use Rattle.nutlisting.proofs.LineFacts.{is_line}
 
 one_line : (text : List ℕ) → IsWholeLine text → (lines text ≡ 1) × (is_open text ≡ false)
-one_line text h = let line = is_line text h in (ap lines line.ends ∙ lines-line line.body line.whole, ap is_open line.ends ∙ whole-line false line.body)
+one_line text h = let line = is_line text h in
+    (ap lines line.ends ∙ lines-line line.body line.whole, ap is_open line.ends ∙ whole-line false line.body)
 
 pub lines_add_up : LinesAddUp
 lines_add_up = record {

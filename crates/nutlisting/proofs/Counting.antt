@@ -1,5 +1,7 @@
 -- How many lines a text has.
-use Rattle.std.proofs.Common.{◌≡◌, ℕ, ◌+◌, ◌<◌, Bool, true, false, cond, List, [], ◌∷◌, ◌++◌, ◌≤◌, length, take, drop, refl, arith, zero, suc}
+use Rattle.std.proofs.Common.{◌≡◌, ℕ, ◌+◌, ◌<◌, Bool, true, false, cond, List, []}
+use Rattle.std.proofs.Common.{◌∷◌, ◌++◌, ◌≤◌, length, take, drop, refl, arith, zero}
+use Rattle.std.proofs.Common.{suc}
 use Rattle.std.specs.Prelude.{not, count_by}
 use Rattle.std.proofs.lemmas.Bool.{and_parts}
 use Rattle.std.proofs.lemmas.Bool.Decides.{nat_tests}
@@ -31,7 +33,12 @@ pub whole-line : (o : Bool) (text : List ℕ) → leaves_open o (text ++ 10 ∷ 
 whole-line o text = leaves_open-append o text (10 ∷ [])
 
 pub lines-line : (text : List ℕ) → has_no_lf text ≡ true → lines (text ++ 10 ∷ []) ≡ 1
-lines-line text h = grind (arith, sum_by-append (λ x. cond (is_lf x) 1 0) text (10 ∷ []), whole-line false text, count-no_lf text h)
+lines-line text h = grind (
+  arith,
+  sum_by-append (λ x. cond (is_lf x) 1 0) text (10 ∷ []),
+  whole-line false text,
+  count-no_lf text h,
+)
 
 pub count_more-add : (made m n : ℕ) → count_more (count_more made m) n ≡ count_more made (m + n)
 count_more-add made m n = omega arith
@@ -47,9 +54,11 @@ no_lf-drop (suc n) [] h = refl
 no_lf-drop (suc n) (b ∷ text) h = no_lf-drop n text (and_parts (not (is_lf b)) (has_no_lf text) h).1
 
 -- a text has no more lines than bytes
-few_within : (o : Bool) (text : List ℕ) → count_by is_lf text + cond (leaves_open o text) 1 0 ≤ length text + cond o 1 0
+few_within : (o : Bool) (text : List ℕ) → count_by is_lf text +
+    cond (leaves_open o text) 1 0 ≤ length text + cond o 1 0
 few_within o [] = omega arith
-few_within o (b ∷ text) = grind (arith, nat_tests, sum_by-cons (λ x. cond (is_lf x) 1 0) b text, few_within (not (is_lf b)) text)
+few_within o (b ∷ text) = grind
+    (arith, nat_tests, sum_by-cons (λ x. cond (is_lf x) 1 0) b text, few_within (not (is_lf b)) text)
 
 pub lines_few : (text : List ℕ) → lines text ≤ length text
 lines_few text = omega (arith, few_within false text)

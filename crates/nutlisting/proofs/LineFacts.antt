@@ -18,4 +18,9 @@ not_lf : (b : ℕ) → is_lawful b ≡ true → not (is_lf b) ≡ true
 not_lf b h = grind (arith, nat_tests)
 
 pub is_line : (text : List ℕ) → IsWholeLine text → IsLine text
-is_line text h = record { body = h.line; ends = h.whole; whole = all_also is_lawful (λ b. not (is_lf b)) not_lf h.line h.answer.lawful }
+is_line text h = record {
+  body = h.line;
+  ends = h.whole;
+  whole =
+      all_also is_lawful (λ b. not (is_lf b)) not_lf h.line h.answer.lawful;
+}

@@ -1,5 +1,6 @@
 -- The UPSs of a list, one after another.
-use Rattle.std.proofs.Common.{◌≡◌, ℕ, ◌+◌, ◌<◌, List, [], ◌∷◌, drop, length, get_or, ap, ◌∙◌}
+use Rattle.std.proofs.Common.{◌≡◌, ℕ, ◌+◌, ◌<◌, List, [], ◌∷◌, drop, length}
+use Rattle.std.proofs.Common.{get_or, ap, ◌∙◌}
 use Rattle.std.specs.Prelude.{Option, Some, None, codes, map, slice_get}
 use Rattle.std.specs.Option.{option_map, option_and_then}
 use Rattle.std.proofs.lemmas.List.{drop_more}
@@ -21,8 +22,10 @@ named_by held ups name desc is n d =
     cc (same, d, is)
 
 -- the line of the UPS at a place, by what is shown of it
-pub ups_first : (upses : List Ups) (place : ℕ) (name : List ℕ) (desc : Option (List ℕ)) (line : List ℕ) → place < length upses
-    → Some name ≡ option_map (λ u. u.name) (slice_get upses place) → desc ≡ option_and_then (λ u. u.desc) (slice_get upses place)
+pub ups_first : (upses : List Ups) (place : ℕ) (name : List ℕ) (desc : Option (List ℕ))
+    (line : List ℕ) → place < length upses
+    → Some name ≡ option_map (λ u. u.name) (slice_get upses place) → desc ≡
+    option_and_then (λ u. u.desc) (slice_get upses place)
     → line ≡ line_of (codes "UPS" ∷ name ∷ quoted (text_or_unavailable desc) ∷ []) → IsWholeLine line
     → IsFirst (map ups_item (drop place upses)) line (map ups_item (drop (place + 1) upses))
 ups_first upses place name desc line within n d l w =

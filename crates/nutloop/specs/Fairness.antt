@@ -55,7 +55,8 @@ FindsWith false s (Some old) ready t new = GoesOnWith s old ready t new
 
 module _ {S R : Type 0} (told : S → Told) (holds : R → Recorded) where
   -- A turn of serving, and the turn of a pass that it is, if it is one.
-  pub record IsOneOf (looks : Bool) (old : Running S R) (t : Option Turn) (new : Running S R) : Type 0 where
+  pub record IsOneOf (looks : Bool) (old : Running S R) (t : Option Turn) (new : Running S R)
+      : Type 0 where
     pub turn : IsTurn (before_turn told holds old) (seen told holds new)
     pub is : Passing
     pub found : turn.mid.passing ≡ Some is
@@ -67,7 +68,8 @@ module _ {S R : Type 0} (told : S → Told) (holds : R → Recorded) where
       (mid : Running S R) × IsOneOf false old t mid × WithoutALook mid ts new
 
   -- The turns from one look up to the next one, before which nobody has a turn any more.
-  pub record FromLookToLook (old : Running S R) (turns : List Turn) (new : Running S R) : Type 0 where
+  pub record FromLookToLook (old : Running S R) (turns : List Turn) (new : Running S R)
+      : Type 0 where
     pub first : Option Turn
     pub mid : Running S R
     pub later : List (Option Turn)

@@ -54,7 +54,8 @@ module _ {S R : Type 0} (told : S → Told) (holds : R → Recorded) where
   abbrev pub AnyTurns : Running S R → List (Option Turn) → Running S R → Type 0
   AnyTurns old [] new = new ≡ old
   AnyTurns old (t ∷ ts) new =
-      (looks : Bool) × ((mid : Running S R) × IsOneOf told holds looks old t mid × AnyTurns mid ts new)
+      (looks : Bool)
+      × ((mid : Running S R) × IsOneOf told holds looks old t mid × AnyTurns mid ts new)
 
   -- One of the turns is had at this stop.
   pub record IsHadAt (s : Stop) (old : Running S R) (turns : List (Option Turn)) (new : Running S R)
@@ -78,8 +79,9 @@ module _ {S R : Type 0} (told : S → Told) (holds : R → Recorded) where
     pub asks : IsHadAt second reports.to reports.after new
     pub takes : IsReadyUpToItsTurn third asks.after at_look → IsHadAt third asks.to asks.after new
 
-  -- A report of the peer is executed; then the line of the client is answered on the server to which
-  -- that led; and the reply, or its first 8,192 bytes, begins what the client takes from then on.
+  -- A report of the peer is executed; then the line of the client is answered on the server to
+  -- which that led; and the reply, or its first 8,192 bytes, begins what the client takes from then
+  -- on.
   pub record IsAnsweredWith (peer : Peer) (report : List ℕ) (c : ℕ) (line : List ℕ)
       (before after asked answered taking : ServerState) : Type 0 where
     pub outcome : Outcome

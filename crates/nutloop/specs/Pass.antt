@@ -29,7 +29,8 @@ client_may Write x =
 
 abbrev pub client_at : Way → List (Option Client) → ℕ → Bool
 client_at way clients place =
-    option_map_or (λ slot. option_map_or (client_may way) slot false) (slice_get clients place) false
+    option_map_or (λ slot. option_map_or (client_may way) slot false)
+    (slice_get clients place) false
 
 -- A driver that is connected has a turn to report that, and from then on where there may be
 -- something to read, or it may take what it is owed.
@@ -101,7 +102,8 @@ Visits may old None new = IsOver may old new
 abbrev pub goes_on : Pass → Bool
 goes_on pass = pass.had_turn && not pass.was_driver_read && nat_lt pass.turns TURNS_PER_LOOK
 
--- A turn without a look: one of this pass, or of the next one where the loop goes on without a look.
+-- A turn without a look: one of this pass, or of the next one where the loop goes on without a
+-- look.
 abbrev pub HasNext : (Stop → Bool) → Pass → Stop → Pass → Type 0
 HasNext may old visited new =
     HasTurn may old visited new

@@ -205,7 +205,8 @@ pub record IsRow (ready : Ready) (old new : LoopState) : Type 0 where
   pub answer : Answer
   pub may : MayAnswer (ask old.server.state ready) answer
   pub mid : Told
-  pub called : Reports (failures_by answer) old.sockets (answered (ask old.server.state ready) answer) mid
+  pub called : Reports (failures_by answer) old.sockets
+      (answered (ask old.server.state ready) answer) mid
   pub does : Does (row_events old.server.state ready answer) (record old { sockets = mid }) new
 
 -- A turn that ends well: what is ready is found, and its row is done.
@@ -239,5 +240,6 @@ TurnGives old (Ok u) new = IsTurn old new
 TurnGives old (Err fault.Ready) new = IsLeft old new × FailsToLook old.sockets new.sockets
 TurnGives old (Err fault.Accept) new =
     IsLeft old new
-    × ((mid : Told) × Readies (λ a b. IsFound old.server.state Newcomer a b) old.sockets Newcomer mid
+    × ((mid : Told)
+    × Readies (λ a b. IsFound old.server.state Newcomer a b) old.sockets Newcomer mid
     × Reports counted mid [] new.sockets)

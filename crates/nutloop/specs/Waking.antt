@@ -25,8 +25,8 @@ is_any_absent s place (x ∷ xs) = is_absent s place x || is_any_absent s (suc p
 abbrev pub first_end : List Closing → ℕ
 first_end closing = fold (λ least x. min least x.until) never closing
 
--- The next second is waited for, as the latest, where the look is to end soon, or something is tried
--- again: an accept that failed, or a driver.
+-- The next second is waited for, as the latest, where the look is to end soon, or something is
+-- tried again: an accept that failed, or a driver.
 abbrev pub is_due_soon : {R F : Type 0} → ServerState → Bool → MioSockets R F → Bool
 is_due_soon s soon sockets =
     soon || (sockets.door.is_tried_again || is_any_absent s 0 sockets.drivers.items)

@@ -13,8 +13,9 @@ use nutcore::laws::{
     what_was_asked_is_executed_or_held, what_was_sent_and_is_owed_is_the_answers,
 };
 
-/// Over any turns of `serve` whose sockets report their calls, what each client and each driver gave
-/// was fed to the server, all of it, in order. What each took is what the server counts as taken.
+/// Over any turns of `serve` whose sockets report their calls, what each client and each driver
+/// gave was fed to the server, all of it, in order. What each took is what the server counts as
+/// taken.
 pub fn every_byte_is_moved_once<S: Sockets, R: Record>()
     ensures { EveryByteIsMovedOnce S.told R.holds }
 {}
@@ -51,7 +52,7 @@ pub fn everybody_has_a_turn<S: Sockets, R: Record>()
 /// A driver's report and a client's request that wait at a look, each up to its turn, are executed
 /// before the next look, the report first, and the client is sent the reply, if it takes what it is
 /// offered. So are a client's order and the request of another one, if the first has the lower
-/// place. A stop that is ready at so many looks has as many turns.
+/// place. A stop that is ready at so many looks has at least as many turns.
 pub fn whoever_asks_learns_in_time<S: Sockets, R: Record>()
     ensures { WhoeverAsksLearnsInTime S.told R.holds }
 {

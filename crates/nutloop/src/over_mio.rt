@@ -190,8 +190,8 @@ impl<'a, R: Net + Clock, F: Read + Drop> MioSockets<'a, R, F> {
         })
     }
 
-    /// Asks the system, and waits for it where nobody had a turn and nothing is due; and the clock. A
-    /// tick, where the second is a new one, or else the first turn of a new pass.
+    /// Asks the system, and waits for it where nobody had a turn and nothing is due; and the clock.
+    /// A tick, where the second is a new one, or else the first turn of a new pass.
     fn first_turn(&mut self, server: &Server, soon: bool) -> io::Result<Ready>
         ensures begins { IfOk result (λ ready.
             Begins server.now.state ready (Some (passing_of self.new))) }

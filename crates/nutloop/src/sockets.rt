@@ -73,8 +73,8 @@ pub trait Sockets {
     fn known(&mut self, server: &Server) -> Option<Ready>
         ensures { Knows (told self.old) server.now.state result (told self.new) };
 
-    /// Looks what is ready, where nothing is known to be, and waits for it: up to the second in which
-    /// something is due, or only up to the next one where `soon`.
+    /// Looks what is ready, where nothing is known to be, and waits for it: up to the second in
+    /// which something is due, or only up to the next one where `soon`.
     fn look(&mut self, server: &Server, soon: bool) -> Result<Ready, Broken>
         ensures { Looks (told self.old) server.now.state result (told self.new) };
 

@@ -260,8 +260,9 @@ fn had_turn<S: Sockets>(server: &Server, sockets: &mut S, c: ClientId)
     }
 }
 
-/// What is ready: it is known, or nothing is and a look finds it. Before a look, which may wait, the
-/// record writes what waits. The look ends soon where the record ended by that, which is logged.
+/// What is ready: it is known, or nothing is and a look finds it. Before a look, which may wait,
+/// the record writes what waits. The look ends soon where the record ended by that, which is
+/// logged.
 ///
 /// # Errors
 ///

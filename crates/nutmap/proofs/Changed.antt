@@ -7,10 +7,14 @@ use Rattle.std.specs.Fn.{Once, FnOnceReturnsAtMut}
 use Rattle.std.specs.Prelude.{◌≡◌}
 use denote.Ref.{MutBor}
 use Rattle.nutmap.specs.Changed.{ChangesValue}
-use Rattle.nutmap.proofs.Ordered.{Rises, lookup_left, lookup_middle, lookup_right, insert_left, insert_middle, insert_right}
+use Rattle.nutmap.proofs.Ordered.{Rises, lookup_left, lookup_middle, lookup_right, insert_left}
+use Rattle.nutmap.proofs.Ordered.{insert_middle, insert_right}
 
-module _ {K V F : Type 0} {R : K → K → Ordering} (o : IsTotalOrder R) (g : Once F (MutBor V × Unit {0}) (Unit {0} × (MutBor V × Unit {0}))) (f : F) (q : K) (l : List (K × V)) (k : K) (w : V) (r : List (K × V)) (s : Rises R (l ++ (k, w) ∷ r)) where
-  pub changed_left : (new : List (K × V)) → R q k ≡ Less → ChangesValue g f R l q new → ChangesValue g f R (l ++ (k, w) ∷ r) q (new ++ (k, w) ∷ r)
+module _ {K V F : Type 0} {R : K → K → Ordering} (o : IsTotalOrder R)
+    (g : Once F (MutBor V × Unit {0}) (Unit {0} × (MutBor V × Unit {0}))) (f : F) (q : K)
+    (l : List (K × V)) (k : K) (w : V) (r : List (K × V)) (s : Rises R (l ++ (k, w) ∷ r)) where
+  pub changed_left : (new : List (K × V)) → R q k ≡ Less → ChangesValue g f R l q new →
+      ChangesValue g f R (l ++ (k, w) ∷ r) q (new ++ (k, w) ∷ r)
   changed_left new h c = record {
     before = c.before;
     after = c.after;
@@ -19,7 +23,8 @@ module _ {K V F : Type 0} {R : K → K → Ordering} (o : IsTotalOrder R) (g : O
     leaves = ap (λ es. es ++ (k, w) ∷ r) c.leaves ∙ sym (insert_left o q l k w r s c.after h);
   }
 
-  pub changed_middle : (v : V) → R q k ≡ Equal → FnOnceReturnsAtMut g f w tt v → ChangesValue g f R (l ++ (k, w) ∷ r) q (l ++ (k, v) ∷ r)
+  pub changed_middle : (v : V) → R q k ≡ Equal → FnOnceReturnsAtMut g f w tt v →
+      ChangesValue g f R (l ++ (k, w) ∷ r) q (l ++ (k, v) ∷ r)
   changed_middle v h called = record {
     before = w;
     after = v;
@@ -28,7 +33,8 @@ module _ {K V F : Type 0} {R : K → K → Ordering} (o : IsTotalOrder R) (g : O
     leaves = sym (insert_middle o q l k w r s v h);
   }
 
-  pub changed_right : (new : List (K × V)) → R q k ≡ Greater → ChangesValue g f R r q new → ChangesValue g f R (l ++ (k, w) ∷ r) q (l ++ (k, w) ∷ new)
+  pub changed_right : (new : List (K × V)) → R q k ≡ Greater → ChangesValue g f R r q new →
+      ChangesValue g f R (l ++ (k, w) ∷ r) q (l ++ (k, w) ∷ new)
   changed_right new h c = record {
     before = c.before;
     after = c.after;

@@ -19,11 +19,14 @@ other_cases Greater n = refl
 module _ {K V : Type 0} {R : K → K → Ordering} (o : IsTotalOrder R) where
   pub insert_changes : (es : List (K × V)) (k : K) (v : V) → ChangesOneKey R es (insert_entry R es k v) k (Some v)
   insert_changes es k v = record {
-    here = λ q h. value_at-insert o es k v q ∙ ap (λ c. cond (is_eq c) (Some v) (value_at R es q)) (tied_back o k q h);
-    elsewhere = λ q n. value_at-insert o es k v q ∙ ap (λ b. cond b (Some v) (value_at R es q)) (other_cases (R q k) (λ e. n (tied_back o q k e)));
+    here = λ q h. value_at-insert o es k v q ∙
+        ap (λ c. cond (is_eq c) (Some v) (value_at R es q)) (tied_back o k q h);
+    elsewhere = λ q n. value_at-insert o es k v q ∙
+        ap (λ b. cond b (Some v) (value_at R es q)) (other_cases (R q k) (λ e. n (tied_back o q k e)));
   }
 
-  pub remove_changes : (es : List (K × V)) → HasRisingKeys R es → (k : K) → ChangesOneKey R es (remove_entry (is_at (R k)) es) k None
+  pub remove_changes : (es : List (K × V)) → HasRisingKeys R es → (k : K) →
+      ChangesOneKey R es (remove_entry (is_at (R k)) es) k None
   remove_changes es s k = record {
     here = λ q h. value_at-remove o es s k q ∙ ap (λ c. cond (is_eq c) None (value_at R es q)) h;
     elsewhere = λ q n. value_at-remove o es s k q ∙ ap (λ b. cond b None (value_at R es q)) (other_cases (R k q) n);

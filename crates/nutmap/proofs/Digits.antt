@@ -1,5 +1,6 @@
 -- How many binary digits a number has.
-use Rattle.std.proofs.Common.{◌≡◌, ℕ, zero, suc, ◌+◌, ◌^◌, ◌≤◌, ◌<◌, Bool, true, false, cond, nat_lt, refl, arith}
+use Rattle.std.proofs.Common.{◌≡◌, ℕ, zero, suc, ◌+◌, ◌^◌, ◌≤◌, ◌<◌, Bool}
+use Rattle.std.proofs.Common.{true, false, cond, nat_lt, refl, arith}
 use Rattle.std.proofs.Math.Nat.{pow-suc}
 use Rattle.std.proofs.Math.Pow.{pow_mono}
 use Rattle.std.proofs.lemmas.Nat.{pow_pos}
@@ -38,14 +39,17 @@ lower_power d e m n reached le unreached = power_cases (nat_lt d e) refl
         let mono = pow_mono {i = e} {j = d} (ltb-false d e s) in
         absurd (omega (arith, mono, reached, le, unreached))
 
-fewest_cases : (n d e : ℕ) (c : Bool) → nat_lt (suc n) (2 ^ d) ≡ c → d ≤ e → suc n < 2 ^ e → cond c d (d + 1) ≤ e
+fewest_cases : (n d e : ℕ) (c : Bool) → nat_lt (suc n) (2 ^ d) ≡ c → d ≤ e → suc n <
+    2 ^ e → cond c d (d + 1) ≤ e
 fewest_cases n d e true s h u = h
-fewest_cases n d e false s h u = omega (arith, lower_power d e (suc n) (suc n) (ltb-false (suc n) (2 ^ d) s) (omega arith) u)
+fewest_cases n d e false s h u = omega
+    (arith, lower_power d e (suc n) (suc n) (ltb-false (suc n) (2 ^ d) s) (omega arith) u)
 
 digits_fewest : (n e : ℕ) → 1 ≤ e → n < 2 ^ e → digits n ≤ e
 unfolding digits
 digits_fewest zero e some h = some
-digits_fewest (suc n) e some h = fewest_cases n (digits n) e (nat_lt (suc n) (2 ^ digits n)) refl (digits_fewest n e some (omega (arith, h))) h
+digits_fewest (suc n) e some h = fewest_cases n (digits n) e (nat_lt (suc n) (2 ^ digits n)) refl
+    (digits_fewest n e some (omega (arith, h))) h
 
 pub digits_count : (n : ℕ) → IsDigitCount n (digits n)
 digits_count n = record { some = digits_some n; enough = digits_enough n; fewest = digits_fewest n }
@@ -56,4 +60,5 @@ lt_digits k n reached = lower_power k (digits n) n n reached (omega arith) (digi
 
 -- the digits of a number between two powers
 pub digits_between : (k n : ℕ) → 2 ^ k ≤ n → n < 2 ^ suc k → digits n ≡ suc k
-digits_between k n reached unreached = omega (arith, lt_digits k n reached, digits_fewest n (suc k) (omega arith) unreached)
+digits_between k n reached unreached =
+    omega (arith, lt_digits k n reached, digits_fewest n (suc k) (omega arith) unreached)

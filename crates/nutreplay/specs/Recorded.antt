@@ -12,8 +12,8 @@ abbrev pub next_line : List Ups → List Event → List ℕ
 next_line list [] = []
 next_line list (event ∷ later) = line_of list event
 
--- A record that has ended after its head: its whole lines are read as a beginning of the events, and
--- after them comes at most a beginning of the next line.
+-- A record that has ended after its head: its whole lines are read as a beginning of the events,
+-- and after them comes at most a beginning of the next line.
 pub record EndsAfterHead (list : List Ups) (max_age : ℕ) (script : List ℕ) (events : List Event)
     : Type 0 where
   pub lines : List ℕ

@@ -143,8 +143,8 @@ abbrev pub age_of_lines : List (List ℕ) → ℕ
 age_of_lines [] = MAX_AGE_DEFAULT
 age_of_lines (line ∷ lines) = unwrap_or (age_in line) MAX_AGE_DEFAULT
 
--- The line of this number, from 1, asks for nothing: it is blank or a comment, or the first line, which
--- says the greatest age.
+-- The line of this number, from 1, asks for nothing: it is blank or a comment, or the first line,
+-- which says the greatest age.
 abbrev pub asks_nothing : ℕ → List ℕ → Bool
 asks_nothing n line = is_silent line || (n == 1 && is_some (age_in line))
 

@@ -25,8 +25,8 @@ pub fn a_head_is_read()
 {}
 
 /// Once what waits is written, the file of a recorder is read as exactly the events that it
-/// recorded, and says the greatest age of their server. Or the record has ended, with a beginning of
-/// its head or of their lines, the last perhaps cut. The writer reports its contents, as the
+/// recorded, and says the greatest age of their server. Or the record has ended, with a beginning
+/// of its head or of their lines, the last perhaps cut. The writer reports its contents, as the
 /// program's own file does not.
 pub fn a_record_is_of_its_events<W: Sink + Drop>()
     ensures { ARecordIsOfItsEvents W.contents W.failures }

@@ -1,4 +1,5 @@
--- The laws of this crate that a proof in a crate above may cite: each is what a function of src/laws.rt ensures.
+-- The laws of this crate that a proof in a crate above may cite: each is what a function of
+-- src/laws.rt ensures.
 use Rattle.nutrequest.specs.Lines.{TheFirstLineIsFound}
 use Rattle.nutrequest.proofs.Cutting.{first_of_more}
 

@@ -1,5 +1,9 @@
 -- What one act does.
-use Rattle.std.proofs.Common.{◌≡◌, ℕ, zero, suc, ◌+◌, ◌-◌, ◌<◌, ◌≤◌, ◌==◌, ◌⊎◌, List, [], ◌∷◌, ◌++◌, length, map, drop, true, false, true≢false, inl, inr, Option, Some, None, is_some, unwrap_or, nat_le, nat_lt, ◌^◌, arith, refl, sym, ap, ◌∙◌, append_assoc, append-nil, length-append, length-drop}
+use Rattle.std.proofs.Common.{◌≡◌, ℕ, zero, suc, ◌+◌, ◌-◌, ◌<◌, ◌≤◌}
+use Rattle.std.proofs.Common.{◌==◌, ◌⊎◌, List, [], ◌∷◌, ◌++◌, length, map, drop}
+use Rattle.std.proofs.Common.{true, false, true≢false, inl, inr, Option, Some, None, is_some}
+use Rattle.std.proofs.Common.{unwrap_or, nat_le, nat_lt, ◌^◌, arith, refl, sym, ap, ◌∙◌}
+use Rattle.std.proofs.Common.{append_assoc, append-nil, length-append, length-drop}
 use Rattle.std.proofs.lemmas.Bool.Decides.{nat_tests}
 use Rattle.std.proofs.lemmas.List.{length-map, drop-drop}
 use Rattle.std.specs.List.{find}
@@ -11,7 +15,9 @@ use Rattle.nuttracking.specs.Acts.{Act, Given, after_act, after_acts, taken_by, 
 use Rattle.nuttracking.specs.Acts.Act.{handed_in, ordered, reported}
 use Rattle.nuttracking.specs.Laws.{as_given}
 use Rattle.nuttracking.specs.Sound.{IsSoundTracking, times}
-use Rattle.nuttracking.specs.Tracking.{TrackingState, has_id, is_known, is_taken_in, with_id, next_id, pending, with_order, awaits, settled, with_report, progress_of}
+use Rattle.nuttracking.specs.Tracking.{TrackingState, has_id, is_known, is_taken_in, with_id}
+use Rattle.nuttracking.specs.Tracking.{next_id, pending, with_order, awaits, settled, with_report}
+use Rattle.nuttracking.specs.Tracking.{progress_of}
 use Rattle.nuttracking.specs.declared.limits.TheConstants.{ID_LIMIT, ORDER_LIMIT}
 use Rattle.nuttracking.specs.declared.order.Progress.{Progress}
 use Rattle.nuttracking.specs.declared.order.Progress.TheVariants.{Pending, Done}
@@ -31,7 +37,8 @@ sound_handed_in t id s = elim (either (is_known id t)) [
   | inr unknown ↦ elim (either (nat_le ID_LIMIT (length t.ids))) [
     | inl full ↦ rw (unknown, full) s
     | inr room ↦ elim (either (nat_lt id (2 ^ 128))) [
-      | inl small ↦ rw (unknown, room, small) (sound_with_id t id s unknown (more_than ID_LIMIT (length t.ids) room) (less_than id (2 ^ 128) small))
+      | inl small ↦ rw (unknown, room, small)
+          (sound_with_id t id s unknown (more_than ID_LIMIT (length t.ids) room) (less_than id (2 ^ 128) small))
       | inr wide ↦ rw (unknown, room, wide) s
     ]
   ]
@@ -54,12 +61,14 @@ orders_handed_in t id = elim (either (is_taken_in id t)) [
 abbrev state : List ℕ → List TrackedOrder → TrackingState
 state ids orders = record { ids = ids; orders = orders }
 
-sound_ordered : (place : ℕ) (ids : List ℕ) (orders : List TrackedOrder) → IsSoundTracking (state ids orders) → IsSoundTracking (with_order place (state ids orders))
+sound_ordered : (place : ℕ) (ids : List ℕ) (orders : List TrackedOrder) →
+    IsSoundTracking (state ids orders) → IsSoundTracking (with_order place (state ids orders))
 sound_ordered place [] orders s = s
 sound_ordered place (id ∷ rest) orders s = sound_with_order place id rest orders s
 
 ids_ordered : (place : ℕ) (ids : List ℕ) (orders : List TrackedOrder)
-    → map (λ (order : Given). order.id) (given_by (state ids orders) (ordered place)) ++ (with_order place (state ids orders)).ids ≡ ids ++ []
+    → map (λ (order : Given). order.id) (given_by (state ids orders) (ordered place)) ++
+    (with_order place (state ids orders)).ids ≡ ids ++ []
 ids_ordered place [] orders = refl
 ids_ordered place (id ∷ rest) orders = sym (append-nil (id ∷ rest))
 
@@ -72,29 +81,35 @@ pub map_append : {X Y : Type 0} (f : X → Y) (xs ys : List X) → map f (xs ++ 
 map_append f [] ys = refl
 map_append f (x ∷ xs) ys = ap (λ (l : List _). f x ∷ l) (map_append f xs ys)
 
-pub all_kept : (orders : List TrackedOrder) → length orders ≤ ORDER_LIMIT → map as_given orders ≡ keep_last ORDER_LIMIT (map as_given orders ++ [])
+pub all_kept : (orders : List TrackedOrder) → length orders ≤ ORDER_LIMIT →
+    map as_given orders ≡ keep_last ORDER_LIMIT (map as_given orders ++ [])
 all_kept orders h =
-    sym (ap (keep_last ORDER_LIMIT) (append-nil (map as_given orders)) ∙ kept_all ORDER_LIMIT (map as_given orders) (rw (length-map orders as_given) h))
+    sym (ap (keep_last ORDER_LIMIT) (append-nil (map as_given orders)) ∙
+    kept_all ORDER_LIMIT (map as_given orders) (rw (length-map orders as_given) h))
 
 orders_ordered : (place : ℕ) (ids : List ℕ) (orders : List TrackedOrder) → length orders ≤ ORDER_LIMIT
-    → map as_given (with_order place (state ids orders)).orders ≡ keep_last ORDER_LIMIT (map as_given orders ++ given_by (state ids orders) (ordered place))
+    → map as_given (with_order place (state ids orders)).orders ≡
+    keep_last ORDER_LIMIT (map as_given orders ++ given_by (state ids orders) (ordered place))
 orders_ordered place [] orders h = all_kept orders h
 orders_ordered place (id ∷ rest) orders h =
     let all : List TrackedOrder = orders ++ pending place id ∷ [] in
-    let mapped : map as_given all ≡ map as_given orders ++ (record { place = place; id = id }) ∷ [] = map_append as_given orders (pending place id ∷ []) in
+    let mapped : map as_given all ≡ map as_given orders ++ (record { place = place; id = id }) ∷
+    [] = map_append as_given orders (pending place id ∷ []) in
     map_dropped as_given (length all - ORDER_LIMIT) all
     ∙ ap (λ (n : ℕ). drop (n - ORDER_LIMIT) (map as_given all)) (sym (length-map all as_given))
     ∙ ap (keep_last ORDER_LIMIT) mapped
 
 -- ---- a report
 
-settled_given : (place id number : ℕ) (order : TrackedOrder) → as_given (settled place id number order) ≡ as_given order
+settled_given : (place id number : ℕ) (order : TrackedOrder) →
+    as_given (settled place id number order) ≡ as_given order
 settled_given place id number order = elim (either (awaits place id order)) [
   | inl is ↦ rw is refl
   | inr not ↦ rw not refl
 ]
 
-given_settled : (place id number : ℕ) (orders : List TrackedOrder) → map as_given (map (settled place id number) orders) ≡ map as_given orders
+given_settled : (place id number : ℕ) (orders : List TrackedOrder) →
+    map as_given (map (settled place id number) orders) ≡ map as_given orders
 given_settled place id number [] = refl
 given_settled place id number (x ∷ orders) =
     ap (λ (g : Given). g ∷ map as_given (map (settled place id number) orders)) (settled_given place id number x)
@@ -107,7 +122,8 @@ sound_after_act t (handed_in id) s = sound_handed_in t id s
 sound_after_act t (ordered place) s = sound_ordered place t.ids t.orders s
 sound_after_act t (reported place id number) s = sound_with_report t place id number s
 
-pub id_step : (t : TrackingState) (act : Act) → map (λ (order : Given). order.id) (given_by t act) ++ (after_act t act).ids ≡ t.ids ++ taken_by t act
+pub id_step : (t : TrackingState) (act : Act) →
+    map (λ (order : Given). order.id) (given_by t act) ++ (after_act t act).ids ≡ t.ids ++ taken_by t act
 id_step t (handed_in id) = ids_handed_in t id
 id_step t (ordered place) = ids_ordered place t.ids t.orders
 id_step t (reported place id number) = sym (append-nil t.ids)
@@ -118,17 +134,21 @@ order_step t (handed_in id) h = ap (map as_given) (orders_handed_in t id) ∙ al
 order_step t (ordered place) h = orders_ordered place t.ids t.orders h
 order_step t (reported place id number) h = given_settled place id number t.orders ∙ all_kept t.orders h
 
-pub dropped_front : {X : Type 0} (k : ℕ) (xs ys : List X) → k ≤ length xs → drop k xs ++ ys ≡ drop k (xs ++ ys)
+pub dropped_front : {X : Type 0} (k : ℕ) (xs ys : List X) → k ≤ length xs → drop k xs ++
+    ys ≡ drop k (xs ++ ys)
 dropped_front zero xs ys h = refl
 dropped_front (suc k) [] ys h = absurd (omega arith)
 dropped_front (suc k) (x ∷ xs) ys h = dropped_front k xs ys (omega arith)
 
-pub keep_keep : {X : Type 0} (n : ℕ) (xs ys : List X) → keep_last n (keep_last n xs ++ ys) ≡ keep_last n (xs ++ ys)
+pub keep_keep : {X : Type 0} (n : ℕ) (xs ys : List X) → keep_last n (keep_last n xs ++ ys) ≡
+    keep_last n (xs ++ ys)
 keep_keep n xs ys =
     let k : ℕ = length xs - n in
     let j : ℕ = length (drop k xs ++ ys) - n in
-    let count : k + j ≡ length (xs ++ ys) - n = omega (arith, length-append (drop k xs) ys, length-append xs ys, length-drop k xs) in
-    ap (drop j) (dropped_front k xs ys (omega arith)) ∙ drop-drop j k (xs ++ ys) ∙ ap (λ (m : ℕ). drop m (xs ++ ys)) count
+    let count : k + j ≡ length (xs ++ ys) - n =
+    omega (arith, length-append (drop k xs) ys, length-append xs ys, length-drop k xs) in
+    ap (drop j) (dropped_front k xs ys (omega arith)) ∙ drop-drop j k (xs ++ ys) ∙
+    ap (λ (m : ℕ). drop m (xs ++ ys)) count
 
 -- ---- one order, as long as it is kept
 
@@ -137,7 +157,8 @@ abbrev told : Progress → ℕ → ℕ → List Act → Progress
 told Pending place id later = first_report place id later
 told (Done number) place id later = Done number
 
-stands_in : (id : ℕ) (front back : List TrackedOrder) (order : TrackedOrder) → order.id ≡ id → 1 ≤ times id (order_ids (front ++ order ∷ back))
+stands_in : (id : ℕ) (front back : List TrackedOrder) (order : TrackedOrder) → order.id ≡
+    id → 1 ≤ times id (order_ids (front ++ order ∷ back))
 stands_in id [] back order e =
     let one : one_if id order.id ≡ 1 = rw e (one_if_same id) in
     omega (arith, times_cons id order.id (order_ids back))
@@ -147,7 +168,8 @@ stands_in id (x ∷ front) back order e =
 is_same : (a b : ℕ) → a ≡ b → (a == b) ≡ true
 is_same a b e = grind (arith, nat_tests)
 
-found_in : (id : ℕ) (front back : List TrackedOrder) (order : TrackedOrder) → order.id ≡ id → times id (order_ids (front ++ order ∷ back)) ≤ 1
+found_in : (id : ℕ) (front back : List TrackedOrder) (order : TrackedOrder) → order.id ≡
+    id → times id (order_ids (front ++ order ∷ back)) ≤ 1
     → find (has_id id) (front ++ order ∷ back) ≡ Some order
 found_in id [] back order e once = rw (is_same order.id id e) refl
 found_in id (x ∷ front) back order e once = elim (either (x.id == id)) [
@@ -155,14 +177,16 @@ found_in id (x ∷ front) back order e once = elim (either (x.id == id)) [
       let one : one_if id x.id ≡ 1 = rw is refl in
       absurd (omega (arith, times_cons id x.id (order_ids (front ++ order ∷ back)), stands_in id front back order e))
   | inr other ↦
-      rw other (found_in id front back order e (omega (arith, times_cons id x.id (order_ids (front ++ order ∷ back)))))
+      rw other (found_in id front back order e
+      (omega (arith, times_cons id x.id (order_ids (front ++ order ∷ back)))))
 ]
 
 abbrev order_of : ℕ → ℕ → Progress → TrackedOrder
 order_of place id progress = record { id = id; place = place; progress = progress }
 
 -- the orders after one that used this id
-pub orders_after : (place id : ℕ) (ids : List ℕ) (orders : List TrackedOrder) → next_id (state ids orders) ≡ Some id
+pub orders_after : (place id : ℕ) (ids : List ℕ) (orders : List TrackedOrder) →
+    next_id (state ids orders) ≡ Some id
     → (with_order place (state ids orders)).orders ≡ keep_last ORDER_LIMIT (orders ++ pending place id ∷ [])
 orders_after place id [] orders e = absurd (true≢false (sym (ap is_some e)))
 orders_after place id (first ∷ rest) orders e =
@@ -171,11 +195,13 @@ orders_after place id (first ∷ rest) orders e =
 given_after : (place id : ℕ) (ids : List ℕ) (orders : List TrackedOrder) → next_id (state ids orders) ≡ Some id
     → given_by (state ids orders) (ordered place) ≡ (record { place = place; id = id }) ∷ []
 given_after place id [] orders e = absurd (true≢false (sym (ap is_some e)))
-given_after place id (first ∷ rest) orders e = ap (λ (o : Option ℕ). (record { place = place; id = unwrap_or o first }) ∷ []) e
+given_after place id (first ∷ rest) orders e =
+    ap (λ (o : Option ℕ). (record { place = place; id = unwrap_or o first }) ∷ []) e
 
 -- without an available id nothing happens
 not_given : (place : ℕ) (ids : List ℕ) (orders : List TrackedOrder) → next_id (state ids orders) ≡ None
-    → (given_by (state ids orders) (ordered place) ≡ []) × ((with_order place (state ids orders)).orders ≡ orders)
+    → (given_by (state ids orders) (ordered place) ≡ []) ×
+    ((with_order place (state ids orders)).orders ≡ orders)
 not_given place [] orders e = (refl, refl)
 not_given place (first ∷ rest) orders e = absurd (true≢false (ap is_some e))
 
@@ -187,11 +213,13 @@ told_end : (p : Progress) (place id : ℕ) → told p place id [] ≡ p
 told_end Pending place id = refl
 told_end (Done number) place id = refl
 
-told_handed_in : (p : Progress) (place id other : ℕ) (later : List Act) → told p place id (handed_in other ∷ later) ≡ told p place id later
+told_handed_in : (p : Progress) (place id other : ℕ) (later : List Act) →
+    told p place id (handed_in other ∷ later) ≡ told p place id later
 told_handed_in Pending place id other later = refl
 told_handed_in (Done number) place id other later = refl
 
-told_ordered : (p : Progress) (place id other : ℕ) (later : List Act) → told p place id (ordered other ∷ later) ≡ told p place id later
+told_ordered : (p : Progress) (place id other : ℕ) (later : List Act) →
+    told p place id (ordered other ∷ later) ≡ told p place id later
 told_ordered Pending place id other later = refl
 told_ordered (Done number) place id other later = refl
 
@@ -201,7 +229,8 @@ record Reported (place id from other number : ℕ) (p : Progress) (later : List 
   pub is : settled from other number (order_of place id p) ≡ order_of place id now
   pub says : told p place id (reported from other number ∷ later) ≡ told now place id later
 
-a_report : (place id from other number : ℕ) (p : Progress) (later : List Act) → Reported place id from other number p later
+a_report : (place id from other number : ℕ) (p : Progress) (later : List Act) →
+    Reported place id from other number p later
 a_report place id from other number (Done n) later = elim (either (id == other)) [
   | inl a ↦ elim (either (place == from)) [
     | inl b ↦ record { now = Done n; is = rw (a, b) refl; says = refl }
@@ -217,28 +246,33 @@ a_report place id from other number Pending later = elim (either (id == other)) 
   | inr a ↦ record { now = Pending; is = rw a refl; says = rw a refl }
 ]
 
-pub settles : (t : TrackingState) (place id : ℕ) (p : Progress) (front back : List TrackedOrder) (later : List Act) → IsSoundTracking t
+pub settles : (t : TrackingState) (place id : ℕ) (p : Progress) (front back : List TrackedOrder)
+    (later : List Act) → IsSoundTracking t
     → t.orders ≡ front ++ order_of place id p ∷ back → length back + length (given t later) < ORDER_LIMIT
     → progress_of id (after_acts t later) ≡ Some (told p place id later)
 settles t place id p front back [] s e few =
-    let once : times id (order_ids t.orders) ≤ 1 = omega (arith, times_append id t.ids (order_ids t.orders), s.once id) in
+    let once : times id (order_ids t.orders) ≤ 1 =
+    omega (arith, times_append id t.ids (order_ids t.orders), s.once id) in
     let there : find (has_id id) t.orders ≡ Some (order_of place id p) =
     rw e (found_in id front back (order_of place id p) refl (rw e at once)) in
     ap (option_map (λ (order : TrackedOrder). order.progress)) there ∙ ap Some (sym (told_end p place id))
 settles t place id p front back (handed_in other ∷ later) s e few =
-    settles (with_id other t) place id p front back later (sound_after_act t (handed_in other) s) (orders_handed_in t other ∙ e) few
+    settles (with_id other t) place id p front back later (sound_after_act t (handed_in other) s)
+    (orders_handed_in t other ∙ e) few
     ∙ ap Some (sym (told_handed_in p place id other later))
 settles t place id p front back (ordered other ∷ later) s e few =
     let t' : TrackingState = with_order other t in
     let s' : IsSoundTracking t' = sound_after_act t (ordered other) s in
     let order : TrackedOrder = order_of place id p in
-    let says : Some (told p place id later) ≡ Some (told p place id (ordered other ∷ later)) = ap Some (sym (told_ordered p place id other later)) in
+    let says : Some (told p place id later) ≡ Some (told p place id (ordered other ∷ later)) =
+    ap Some (sym (told_ordered p place id other later)) in
     let many = length-append (given_by t (ordered other)) (given t' later) in
     elim (some_or_none (next_id t)) [
       | inl used ↦
           let new : TrackedOrder = pending other used.0 in
           let k : ℕ = length (t.orders ++ new ∷ []) - ORDER_LIMIT in
-          let one : length (given_by t (ordered other)) ≡ 1 = ap length (given_after other used.0 t.ids t.orders used.1) in
+          let one : length (given_by t (ordered other)) ≡ 1 =
+          ap length (given_after other used.0 t.ids t.orders used.1) in
           let fits : length (front ++ order ∷ back) ≤ ORDER_LIMIT = rw e at s.orders_few in
           let whole : length (t.orders ++ new ∷ []) ≡ length front + (1 + length back) + 1 =
           length-append t.orders (new ∷ []) ∙ rw e (omega (arith, length-append front (order ∷ back))) in
@@ -259,7 +293,9 @@ settles t place id p front back (reported from other number ∷ later) s e few =
     let r = a_report place id from other number p later in
     let f : TrackedOrder → TrackedOrder = settled from other number in
     let orders : t'.orders ≡ map f front ++ order_of place id r.now ∷ map f back =
-    ap (map f) e ∙ map_append f front (order_of place id p ∷ back) ∙ ap (λ (x : TrackedOrder). map f front ++ x ∷ map f back) r.is in
+    ap (map f) e ∙ map_append f front (order_of place id p ∷ back) ∙
+    ap (λ (x : TrackedOrder). map f front ++ x ∷ map f back) r.is in
     let same : length (map f back) ≡ length back = length-map back f in
-    settles t' place id r.now (map f front) (map f back) later (sound_after_act t (reported from other number) s) orders (rw same few)
+    settles t' place id r.now (map f front) (map f back) later
+    (sound_after_act t (reported from other number) s) orders (rw same few)
     ∙ ap Some (sym r.says)

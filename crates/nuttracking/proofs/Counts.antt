@@ -1,5 +1,8 @@
 -- How often an id stands in a list.
-use Rattle.std.proofs.Common.{◌≡◌, ℕ, zero, suc, ◌+◌, ◌<◌, ◌≤◌, ◌==◌, ◌⊎◌, cond, List, [], ◌∷◌, ◌++◌, length, map, drop, get_or, Bool, true, false, true≢false, inl, inr, arith, refl, ◌∙◌}
+use Rattle.std.proofs.Common.{◌≡◌, ℕ, zero, suc, ◌+◌, ◌<◌, ◌≤◌, ◌==◌}
+use Rattle.std.proofs.Common.{◌⊎◌, cond, List, [], ◌∷◌, ◌++◌, length, map, drop}
+use Rattle.std.proofs.Common.{get_or, Bool, true, false, true≢false, inl, inr, arith, refl}
+use Rattle.std.proofs.Common.{◌∙◌}
 use Rattle.std.proofs.lemmas.Bool.Decides.{nat_tests}
 use Rattle.std.proofs.lemmas.List.Sums.{sum_by-cons, sum_by-append}
 use Rattle.std.specs.List.{list_any}
@@ -37,7 +40,8 @@ not_at_hand id (x ∷ ids) e = elim (either (x == id)) [
   | inr other ↦ times_cons id x ids ∙ rw (other, not_at_hand id ids (rw other at e)) refl
 ]
 
-pub not_kept : (id : ℕ) (orders : List TrackedOrder) → list_any (has_id id) orders ≡ false → times id (order_ids orders) ≡ 0
+pub not_kept : (id : ℕ) (orders : List TrackedOrder) → list_any (has_id id) orders ≡ false →
+    times id (order_ids orders) ≡ 0
 not_kept id [] e = refl
 not_kept id (x ∷ orders) e = elim (either (x.id == id)) [
   | inl is ↦ absurd (true≢false (rw is at e))
@@ -45,13 +49,17 @@ not_kept id (x ∷ orders) e = elim (either (x.id == id)) [
 ]
 
 -- an order that is there has its id there
-pub there : (id : ℕ) (orders : List TrackedOrder) (at : ℕ) (d : TrackedOrder) → at < length orders → (get_or orders at d).id ≡ id → 1 ≤ times id (order_ids orders)
+pub there : (id : ℕ) (orders : List TrackedOrder) (at : ℕ) (d : TrackedOrder) → at <
+    length orders → (get_or orders at d).id ≡ id → 1 ≤ times id (order_ids orders)
 there id [] at d h e = absurd (omega arith)
 there id (x ∷ orders) zero d h e = rw (times_cons id x.id (order_ids orders), e, one_if_same id) (omega arith)
-there id (x ∷ orders) (suc at) d h e = omega (arith, times_cons id x.id (order_ids orders), there id orders at d (omega arith) e)
+there id (x ∷ orders) (suc at) d h e =
+    omega (arith, times_cons id x.id (order_ids orders), there id orders at d (omega arith) e)
 
 -- what is dropped isn't counted
-pub times_dropped : (id k : ℕ) (orders : List TrackedOrder) → times id (order_ids (drop k orders)) ≤ times id (order_ids orders)
+pub times_dropped : (id k : ℕ) (orders : List TrackedOrder) →
+    times id (order_ids (drop k orders)) ≤ times id (order_ids orders)
 times_dropped id zero orders = omega arith
 times_dropped id (suc k) [] = omega arith
-times_dropped id (suc k) (x ∷ orders) = omega (arith, times_cons id x.id (order_ids orders), times_dropped id k orders)
+times_dropped id (suc k) (x ∷ orders) =
+    omega (arith, times_cons id x.id (order_ids orders), times_dropped id k orders)

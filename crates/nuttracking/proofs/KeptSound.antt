@@ -1,12 +1,18 @@
 -- What the operations keep.
-use Rattle.std.proofs.Common.{◌≡◌, ℕ, zero, suc, ◌+◌, ◌-◌, ◌^◌, ◌<◌, ◌≤◌, ◌==◌, ◌⊎◌, ◌||◌, List, [], ◌∷◌, ◌++◌, length, map, drop, get_or, set, Bool, true, false, true≢false, not, inl, inr, nat_lt, slice_get, Option, Some, None, is_some, unwrap_or, arith, refl, sym, ap, ◌∙◌, length-append, length-drop}
+use Rattle.std.proofs.Common.{◌≡◌, ℕ, zero, suc, ◌+◌, ◌-◌, ◌^◌, ◌<◌}
+use Rattle.std.proofs.Common.{◌≤◌, ◌==◌, ◌⊎◌, ◌||◌, List, [], ◌∷◌}
+use Rattle.std.proofs.Common.{◌++◌, length, map, drop, get_or, set, Bool, true, false}
+use Rattle.std.proofs.Common.{true≢false, not, inl, inr, nat_lt, slice_get, Option, Some, None}
+use Rattle.std.proofs.Common.{is_some, unwrap_or, arith, refl, sym, ap, ◌∙◌, length-append}
+use Rattle.std.proofs.Common.{length-drop}
 use Rattle.std.proofs.lemmas.Bool.{eqb-true}
 use Rattle.std.proofs.lemmas.Bool.Decides.{nat_tests}
 use Rattle.std.proofs.lemmas.List.{length-map, map_push}
 use Rattle.std.proofs.lemmas.List.Elements.{All-nil, All-cons, All-drop, All-append, All-map}
 use Rattle.std.specs.List.{list_any, prefix_len, position, position_or_len}
 use Rattle.circular_buffer.specs.Buffer.{keep_last}
-use Rattle.nuttracking.proofs.Counts.{one_if, order_ids, times_cons, times_append, times_push, one_if_same, not_at_hand, not_kept, there, times_dropped}
+use Rattle.nuttracking.proofs.Counts.{one_if, order_ids, times_cons, times_append, times_push}
+use Rattle.nuttracking.proofs.Counts.{one_if_same, not_at_hand, not_kept, there, times_dropped}
 use Rattle.nuttracking.specs.Sound.{times, IsLawfulProgress, IsSoundTracking, HaveLawfulNumbers}
 use Rattle.nuttracking.specs.Tracking.{TrackingState, has_id, is_known, pending, awaits, settled}
 use Rattle.nuttracking.specs.declared.limits.TheConstants.{ID_LIMIT, ORDER_LIMIT, DONE_LIMIT}
@@ -24,7 +30,8 @@ neither false true e = absurd (true≢false e)
 
 -- ---- an id more
 
-one_more : (id j : ℕ) (xs ys : List ℕ) → times id xs ≡ 0 → times id ys ≡ 0 → times j (xs ++ ys) ≤ 1 → times j ((xs ++ id ∷ []) ++ ys) ≤ 1
+one_more : (id j : ℕ) (xs ys : List ℕ) → times id xs ≡ 0 → times id ys ≡ 0 →
+    times j (xs ++ ys) ≤ 1 → times j ((xs ++ id ∷ []) ++ ys) ≤ 1
 one_more id j xs ys here kept once =
     let before = times_append j xs ys in
     let after = times_append j (xs ++ id ∷ []) ys in
@@ -42,7 +49,8 @@ one_more id j xs ys here kept once =
     ]
 
 -- no number that is too great
-small_more : (id j k : ℕ) (xs ys : List ℕ) → id < k → k ≤ j → times j (xs ++ ys) ≡ 0 → times j ((xs ++ id ∷ []) ++ ys) ≡ 0
+small_more : (id j k : ℕ) (xs ys : List ℕ) → id < k → k ≤ j → times j (xs ++ ys) ≡
+    0 → times j ((xs ++ id ∷ []) ++ ys) ≡ 0
 small_more id j k xs ys below above none =
     let before = times_append j xs ys in
     let after = times_append j (xs ++ id ∷ []) ys in
@@ -50,7 +58,8 @@ small_more id j k xs ys below above none =
     let other : one_if j id ≡ 0 = grind (arith, nat_tests) in
     omega arith
 
-pub sound_with_id : (t : TrackingState) (id : ℕ) → IsSoundTracking t → is_known id t ≡ false → length t.ids < ID_LIMIT → id < 2 ^ 128
+pub sound_with_id : (t : TrackingState) (id : ℕ) → IsSoundTracking t → is_known id t ≡
+    false → length t.ids < ID_LIMIT → id < 2 ^ 128
     → IsSoundTracking (record { ids = t.ids ++ id ∷ []; orders = t.orders })
 sound_with_id t id s unknown room small =
     let parts = neither (list_any (λ (other : ℕ). other == id) t.ids) (list_any (has_id id) t.orders) unknown in
@@ -58,38 +67,46 @@ sound_with_id t id s unknown room small =
       ids_few = omega (arith, length-append t.ids (id ∷ []));
       orders_few = s.orders_few;
       small = λ j h. small_more id j (2 ^ 128) t.ids (order_ids t.orders) small h (s.small j h);
-      once = λ j. one_more id j t.ids (order_ids t.orders) (not_at_hand id t.ids parts.0) (not_kept id t.orders parts.1) (s.once j);
+      once = λ j. one_more id j t.ids (order_ids t.orders) (not_at_hand id t.ids parts.0)
+          (not_kept id t.orders parts.1) (s.once j);
     }
 
 -- ---- an order more
 
 no_more_used : (place id j k : ℕ) (rest : List ℕ) (orders : List TrackedOrder)
-    → times j (rest ++ order_ids (drop k (orders ++ pending place id ∷ []))) ≤ times j ((id ∷ rest) ++ order_ids orders)
+    → times j (rest ++ order_ids (drop k (orders ++ pending place id ∷ []))) ≤
+    times j ((id ∷ rest) ++ order_ids orders)
 no_more_used place id j k rest orders =
     let before = times_append j (id ∷ rest) (order_ids orders) in
     let first = times_cons j id rest in
     let after = times_append j rest (order_ids (drop k (orders ++ pending place id ∷ []))) in
     let dropped = times_dropped j k (orders ++ pending place id ∷ []) in
     let pushed : times j (order_ids (orders ++ pending place id ∷ [])) ≡ times j (order_ids orders) + one_if j id =
-    ap (times j) (map_push (λ (order : TrackedOrder). order.id) orders (pending place id)) ∙ times_push j id (order_ids orders) in
+    ap (times j) (map_push (λ (order : TrackedOrder). order.id) orders (pending place id)) ∙
+    times_push j id (order_ids orders) in
     omega arith
 
-once_used : (place id j k : ℕ) (rest : List ℕ) (orders : List TrackedOrder) → times j ((id ∷ rest) ++ order_ids orders) ≤ 1
+once_used : (place id j k : ℕ) (rest : List ℕ) (orders : List TrackedOrder) →
+    times j ((id ∷ rest) ++ order_ids orders) ≤ 1
     → times j (rest ++ order_ids (drop k (orders ++ pending place id ∷ []))) ≤ 1
 once_used place id j k rest orders once = omega (arith, no_more_used place id j k rest orders)
 
-small_used : (place id j k : ℕ) (rest : List ℕ) (orders : List TrackedOrder) → times j ((id ∷ rest) ++ order_ids orders) ≡ 0
+small_used : (place id j k : ℕ) (rest : List ℕ) (orders : List TrackedOrder) →
+    times j ((id ∷ rest) ++ order_ids orders) ≡ 0
     → times j (rest ++ order_ids (drop k (orders ++ pending place id ∷ []))) ≡ 0
 small_used place id j k rest orders none = omega (arith, no_more_used place id j k rest orders)
 
 abbrev Lawful : TrackedOrder → Type 0
 Lawful order = IsLawfulProgress order.progress
 
-pub lawful_with_order : (place id k : ℕ) (orders : List TrackedOrder) → HaveLawfulNumbers orders → HaveLawfulNumbers (drop k (orders ++ pending place id ∷ []))
+pub lawful_with_order : (place id k : ℕ) (orders : List TrackedOrder) →
+    HaveLawfulNumbers orders → HaveLawfulNumbers (drop k (orders ++ pending place id ∷ []))
 lawful_with_order place id k orders all =
-    All-drop Lawful k (orders ++ pending place id ∷ []) (All-append Lawful orders (pending place id ∷ []) all (All-cons Lawful (pending place id) [] tt (All-nil Lawful)))
+    All-drop Lawful k (orders ++ pending place id ∷ [])
+    (All-append Lawful orders (pending place id ∷ []) all (All-cons Lawful (pending place id) [] tt (All-nil Lawful)))
 
-pub sound_with_order : (place id : ℕ) (rest : List ℕ) (orders : List TrackedOrder) → IsSoundTracking (record { ids = id ∷ rest; orders = orders })
+pub sound_with_order : (place id : ℕ) (rest : List ℕ) (orders : List TrackedOrder) →
+    IsSoundTracking (record { ids = id ∷ rest; orders = orders })
     → IsSoundTracking (record { ids = rest; orders = keep_last ORDER_LIMIT (orders ++ pending place id ∷ []) })
 sound_with_order place id rest orders s =
     let all : List TrackedOrder = orders ++ pending place id ∷ [] in
@@ -108,20 +125,24 @@ settled_id place id number order = elim (either (awaits place id order)) [
   | inr not ↦ rw not refl
 ]
 
-pub ids_settled : (place id number : ℕ) (orders : List TrackedOrder) → order_ids (map (settled place id number) orders) ≡ order_ids orders
+pub ids_settled : (place id number : ℕ) (orders : List TrackedOrder) →
+    order_ids (map (settled place id number) orders) ≡ order_ids orders
 ids_settled place id number [] = refl
 ids_settled place id number (x ∷ orders) =
     ap (λ (i : ℕ). i ∷ order_ids (map (settled place id number) orders)) (settled_id place id number x)
     ∙ ap (λ (l : List ℕ). x.id ∷ l) (ids_settled place id number orders)
 
-settled_lawful : (place id number : ℕ) (order : TrackedOrder) → number ≤ DONE_LIMIT → IsLawfulProgress order.progress → IsLawfulProgress (settled place id number order).progress
+settled_lawful : (place id number : ℕ) (order : TrackedOrder) → number ≤ DONE_LIMIT →
+    IsLawfulProgress order.progress → IsLawfulProgress (settled place id number order).progress
 settled_lawful place id number order h p = elim (either (awaits place id order)) [
   | inl is ↦ rw is h
   | inr not ↦ rw not p
 ]
 
-pub lawful_settled : (place id number : ℕ) (orders : List TrackedOrder) → number ≤ DONE_LIMIT → HaveLawfulNumbers orders → HaveLawfulNumbers (map (settled place id number) orders)
-lawful_settled place id number orders h all = All-map Lawful (settled place id number) orders (λ k d lt. settled_lawful place id number _ h (all k d lt))
+pub lawful_settled : (place id number : ℕ) (orders : List TrackedOrder) → number ≤
+    DONE_LIMIT → HaveLawfulNumbers orders → HaveLawfulNumbers (map (settled place id number) orders)
+lawful_settled place id number orders h all =
+    All-map Lawful (settled place id number) orders (λ k d lt. settled_lawful place id number _ h (all k d lt))
 
 pub sound_with_report : (t : TrackingState) (place id number : ℕ) → IsSoundTracking t
     → IsSoundTracking (record { ids = t.ids; orders = map (settled place id number) t.orders })
@@ -134,10 +155,12 @@ sound_with_report t place id number s = record {
 
 -- ---- the one order that a report settles
 
-unless_awaited : (place id number : ℕ) (order : TrackedOrder) → awaits place id order ≡ false → settled place id number order ≡ order
+unless_awaited : (place id number : ℕ) (order : TrackedOrder) → awaits place id order ≡
+    false → settled place id number order ≡ order
 unless_awaited place id number order e = rw e refl
 
-pub nothing_settled : (place id number : ℕ) (orders : List TrackedOrder) → list_any (awaits place id) orders ≡ false → map (settled place id number) orders ≡ orders
+pub nothing_settled : (place id number : ℕ) (orders : List TrackedOrder) →
+    list_any (awaits place id) orders ≡ false → map (settled place id number) orders ≡ orders
 nothing_settled place id number [] e = refl
 nothing_settled place id number (x ∷ orders) e =
     let parts = neither (awaits place id x) (list_any (awaits place id) orders) e in
@@ -156,16 +179,19 @@ has_not place id order e = elim (either (order.id == id)) [
   | inr not ↦ rw not refl
 ]
 
-none_of_id : (place id number : ℕ) (orders : List TrackedOrder) → times id (order_ids orders) ≡ 0 → map (settled place id number) orders ≡ orders
+none_of_id : (place id number : ℕ) (orders : List TrackedOrder) →
+    times id (order_ids orders) ≡ 0 → map (settled place id number) orders ≡ orders
 none_of_id place id number [] e = refl
 none_of_id place id number (x ∷ orders) e =
     let count = times_cons id x.id (order_ids orders) in
     let first : one_if id x.id ≡ 0 = omega arith in
     let rest : times id (order_ids orders) ≡ 0 = omega arith in
-    ap (λ (y : TrackedOrder). y ∷ map (settled place id number) orders) (unless_awaited place id number x (has_not place id x first))
+    ap (λ (y : TrackedOrder). y ∷ map (settled place id number) orders)
+    (unless_awaited place id number x (has_not place id x first))
     ∙ ap (λ (l : List TrackedOrder). x ∷ l) (none_of_id place id number orders rest)
 
-pub one_settled : (place id number : ℕ) (orders : List TrackedOrder) (at : ℕ) (d : TrackedOrder) → at < length orders
+pub one_settled : (place id number : ℕ) (orders : List TrackedOrder) (at : ℕ) (d : TrackedOrder)
+    → at < length orders
     → awaits place id (get_or orders at d) ≡ true → times id (order_ids orders) ≤ 1
     → set orders at (record (get_or orders at d) { progress = Done number }) ≡ map (settled place id number) orders
 one_settled place id number [] at d h e once = absurd (omega arith)
@@ -174,17 +200,24 @@ one_settled place id number (x ∷ orders) zero d h e once =
     let it : x.id ≡ id = has_the_id place id x e in
     let one : one_if id x.id ≡ 1 = rw it (one_if_same id) in
     let first : settled place id number x ≡ record x { progress = Done number } = rw e refl in
-    ap (λ (y : TrackedOrder). y ∷ orders) (sym first) ∙ ap (λ (l : List TrackedOrder). settled place id number x ∷ l) (sym (none_of_id place id number orders (omega arith)))
+    ap (λ (y : TrackedOrder). y ∷ orders) (sym first) ∙
+    ap (λ (l : List TrackedOrder). settled place id number x ∷ l)
+    (sym (none_of_id place id number orders (omega arith)))
 one_settled place id number (x ∷ orders) (suc at) d h e once =
     let count = times_cons id x.id (order_ids orders) in
-    let later : 1 ≤ times id (order_ids orders) = there id orders at d (omega arith) (has_the_id place id (get_or orders at d) e) in
+    let later : 1 ≤ times id (order_ids orders) =
+    there id orders at d (omega arith) (has_the_id place id (get_or orders at d) e) in
     let first : one_if id x.id ≡ 0 = omega arith in
-    ap (λ (y : TrackedOrder). y ∷ set orders at (record (get_or orders at d) { progress = Done number })) (sym (unless_awaited place id number x (has_not place id x first)))
-    ∙ ap (λ (l : List TrackedOrder). settled place id number x ∷ l) (one_settled place id number orders at d (omega arith) e (omega arith))
+    ap (λ (y : TrackedOrder). y ∷
+    set orders at (record (get_or orders at d) { progress = Done number }))
+    (sym (unless_awaited place id number x (has_not place id x first)))
+    ∙ ap (λ (l : List TrackedOrder). settled place id number x ∷ l)
+    (one_settled place id number orders at d (omega arith) e (omega arith))
 
 -- ---- where no order is found
 
-none_found : {X : Type 0} (p : X → Bool) (xs : List X) → length xs ≤ prefix_len (λ x. not (p x)) xs → list_any p xs ≡ false
+none_found : {X : Type 0} (p : X → Bool) (xs : List X) → length xs ≤
+    prefix_len (λ x. not (p x)) xs → list_any p xs ≡ false
 none_found p [] h = refl
 none_found p (x ∷ xs) h = elim (either (p x)) [
   | inl is ↦ absurd (omega (arith, rw is at h))

@@ -1,5 +1,8 @@
 -- The number that the digits of a text say.
-use Rattle.std.proofs.Common.{◌≡◌, ℕ, suc, zero, ◌+◌, ◌*◌, ◌/◌, ◌%◌, ◌^◌, ◌<◌, ◌&&◌, List, [], ◌∷◌, ◌++◌, take, drop, Bool, true, false, true≢false, cond, arith, refl, sym, ap, ◌∙◌}
+use Rattle.std.proofs.Common.{◌≡◌, ℕ, suc, zero, ◌+◌, ◌*◌, ◌/◌, ◌%◌}
+use Rattle.std.proofs.Common.{◌^◌, ◌<◌, ◌&&◌, List, [], ◌∷◌, ◌++◌, take, drop}
+use Rattle.std.proofs.Common.{Bool, true, false, true≢false, cond, arith, refl, sym, ap}
+use Rattle.std.proofs.Common.{◌∙◌}
 use Rattle.std.proofs.lemmas.Bool.Decides.{nat_tests}
 use Rattle.std.proofs.lemmas.List.{take-append-drop, drop-drop}
 use Rattle.std.proofs.lemmas.List.Elements.{filter-append}
@@ -27,13 +30,17 @@ same_value c = grind (arith, nat_tests)
 one_byte : (b : Bool) (n c d : ℕ) (xs ys : List ℕ) → digit_value c ≡ digit_value d
     → ((m : ℕ) → digits_value_after 16 m xs ≡ digits_value_after 16 m ys)
     → digits_value_after 16 n (cond b (c ∷ xs) xs) ≡ digits_value_after 16 n (cond b (d ∷ ys) ys)
-one_byte true n c d xs ys e rest = ap (λ (v : ℕ). digits_value_after 16 (n * 16 + v) xs) e ∙ rest (n * 16 + digit_value d)
+one_byte true n c d xs ys e rest = ap (λ (v : ℕ). digits_value_after 16 (n * 16 + v) xs) e ∙
+    rest (n * 16 + digit_value d)
 one_byte false n c d xs ys e rest = rest n
 
-value_after_lowered : (n : ℕ) (s : List ℕ) → digits_value_after 16 n (filter is_ascii_hexdigit (str_to_ascii_lowercase s)) ≡ digits_value_after 16 n (filter is_ascii_hexdigit s)
+value_after_lowered : (n : ℕ) (s : List ℕ) →
+    digits_value_after 16 n (filter is_ascii_hexdigit (str_to_ascii_lowercase s)) ≡
+    digits_value_after 16 n (filter is_ascii_hexdigit s)
 value_after_lowered n [] = refl
 value_after_lowered n (c ∷ s) =
-    rw (same_test c) (one_byte (is_ascii_hexdigit c) n (to_ascii_lowercase c) c (filter is_ascii_hexdigit (str_to_ascii_lowercase s)) (filter is_ascii_hexdigit s)
+    rw (same_test c) (one_byte (is_ascii_hexdigit c) n (to_ascii_lowercase c) c
+    (filter is_ascii_hexdigit (str_to_ascii_lowercase s)) (filter is_ascii_hexdigit s)
     (same_value c) (λ m. value_after_lowered m s))
 
 pub number_lowered : (s : List ℕ) → digits_number (str_to_ascii_lowercase s) ≡ digits_number s
@@ -47,7 +54,8 @@ unfolding last_digits
 digits_pass zero n = refl
 digits_pass (suc k) n =
     let last : is_ascii_hexdigit (digit_char (n % 16)) ≡ true = grind (arith, nat_tests) in
-    list_all-append is_ascii_hexdigit (last_digits k (n / 16)) (digit_char (n % 16) ∷ []) ∙ rw (digits_pass k (n / 16), last) refl
+    list_all-append is_ascii_hexdigit (last_digits k (n / 16)) (digit_char (n % 16) ∷ []) ∙
+    rw (digits_pass k (n / 16), last) refl
 
 all_stay : (p : ℕ → Bool) (xs : List ℕ) → list_all p xs ≡ true → filter p xs ≡ xs
 all_stay p [] all = refl
@@ -55,21 +63,28 @@ all_stay p (x ∷ xs) all =
     let parts = both (p x) (list_all p xs) all in
     rw parts.0 (ap (λ (l : List ℕ). x ∷ l) (all_stay p xs parts.1))
 
-halves_pass : (p : ℕ → Bool) (n : ℕ) (xs : List ℕ) → list_all p xs ≡ true → (list_all p (take n xs) ≡ true) × (list_all p (drop n xs) ≡ true)
-halves_pass p n xs all = both (list_all p (take n xs)) (list_all p (drop n xs)) (sym (list_all-append p (take n xs) (drop n xs)) ∙ ap (list_all p) (take-append-drop n xs) ∙ all)
+halves_pass : (p : ℕ → Bool) (n : ℕ) (xs : List ℕ) → list_all p xs ≡ true →
+    (list_all p (take n xs) ≡ true) × (list_all p (drop n xs) ≡ true)
+halves_pass p n xs all = both (list_all p (take n xs)) (list_all p (drop n xs))
+    (sym (list_all-append p (take n xs) (drop n xs)) ∙ ap (list_all p) (take-append-drop n xs) ∙ all)
 
 -- a group, a hyphen, and what is left of the digits after them
-one_group : (n : ℕ) (digits rest : List ℕ) → list_all is_ascii_hexdigit digits ≡ true → filter is_ascii_hexdigit rest ≡ drop n digits
+one_group : (n : ℕ) (digits rest : List ℕ) → list_all is_ascii_hexdigit digits ≡ true →
+    filter is_ascii_hexdigit rest ≡ drop n digits
     → filter is_ascii_hexdigit (take n digits ++ (hyphen ∷ rest)) ≡ digits
 one_group n digits rest all e =
     filter-append is_ascii_hexdigit (take n digits) (hyphen ∷ rest)
-    ∙ ap (λ (l : List ℕ). l ++ filter is_ascii_hexdigit rest) (all_stay is_ascii_hexdigit (take n digits) (halves_pass is_ascii_hexdigit n digits all).0)
+    ∙ ap (λ (l : List ℕ). l ++ filter is_ascii_hexdigit rest)
+    (all_stay is_ascii_hexdigit (take n digits) (halves_pass is_ascii_hexdigit n digits all).0)
     ∙ ap (λ (l : List ℕ). take n digits ++ l) e ∙ take-append-drop n digits
 
-groups_stay : (digits : List ℕ) → list_all is_ascii_hexdigit digits ≡ true → filter is_ascii_hexdigit (join_with_byte hyphen (groups digits)) ≡ digits
+groups_stay : (digits : List ℕ) → list_all is_ascii_hexdigit digits ≡ true →
+    filter is_ascii_hexdigit (join_with_byte hyphen (groups digits)) ≡ digits
 groups_stay digits all =
-    let pass : (n : ℕ) → list_all is_ascii_hexdigit (drop n digits) ≡ true = λ n. (halves_pass is_ascii_hexdigit n digits all).1 in
-    let last : filter is_ascii_hexdigit (drop 20 digits) ≡ drop 4 (drop 16 digits) = all_stay is_ascii_hexdigit (drop 20 digits) (pass 20) ∙ sym (drop-drop 4 16 digits) in
+    let pass : (n : ℕ) → list_all is_ascii_hexdigit (drop n digits) ≡ true =
+    λ n. (halves_pass is_ascii_hexdigit n digits all).1 in
+    let last : filter is_ascii_hexdigit (drop 20 digits) ≡ drop 4 (drop 16 digits) =
+    all_stay is_ascii_hexdigit (drop 20 digits) (pass 20) ∙ sym (drop-drop 4 16 digits) in
     let fourth = one_group 4 (drop 16 digits) (drop 20 digits) (pass 16) last in
     let third = one_group 4 (drop 12 digits) _ (pass 12) (fourth ∙ sym (drop-drop 4 12 digits)) in
     let second = one_group 4 (drop 8 digits) _ (pass 8) (third ∙ sym (drop-drop 4 8 digits)) in

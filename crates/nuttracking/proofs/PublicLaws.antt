@@ -1,5 +1,10 @@
--- The laws of this crate that a proof in a crate above may cite: each is what a function of src/laws.rt ensures.
-use Rattle.std.proofs.Common.{◌≡◌, ℕ, ◌-◌, ◌^◌, ◌<◌, ◌≤◌, inl, inr, nat_lt, subst, List, [], ◌∷◌, ◌++◌, length, map, drop, Bool, true, false, true≢false, if◌then◌else◌, Option, Some, None, is_some, unwrap_or, arith, refl, sym, ap, ◌∙◌, append_assoc, append-nil, length-append}
+-- The laws of this crate that a proof in a crate above may cite: each is what a function of
+-- src/laws.rt ensures.
+use Rattle.std.proofs.Common.{◌≡◌, ℕ, ◌-◌, ◌^◌, ◌<◌, ◌≤◌, inl, inr}
+use Rattle.std.proofs.Common.{nat_lt, subst, List, [], ◌∷◌, ◌++◌, length, map, drop, Bool}
+use Rattle.std.proofs.Common.{true, false, true≢false, if◌then◌else◌, Option, Some, None}
+use Rattle.std.proofs.Common.{is_some, unwrap_or, arith, refl, sym, ap, ◌∙◌, append_assoc}
+use Rattle.std.proofs.Common.{append-nil, length-append}
 use Rattle.std.proofs.lemmas.List.{length-map}
 use Rattle.std.proofs.lemmas.Slice.Eq.{bytes_eq-Decides}
 use Rattle.std.specs.Char.{to_ascii_lowercase}
@@ -12,16 +17,20 @@ use Rattle.nuttracking.proofs.Texts.{id_text_length}
 use Rattle.nuttracking.specs.Acts.{Given, after_act, after_acts, taken_by, taken_in, given_by, given}
 use Rattle.nuttracking.specs.Acts.Act.{handed_in, ordered, reported}
 use Rattle.nuttracking.specs.Id.{id_text, digits_number, read_id, WrittenIsRead, ReadIsWritten, IdsArePlain}
-use Rattle.nuttracking.specs.Laws.{FirstInFirstOut, TheLastAreKept, ActsKeepItSound, LawfulActsKeepNumbersLawful, ItsDriverSettlesItOnce, as_given}
+use Rattle.nuttracking.specs.Laws.{FirstInFirstOut, TheLastAreKept, ActsKeepItSound}
+use Rattle.nuttracking.specs.Laws.{LawfulActsKeepNumbersLawful, ItsDriverSettlesItOnce, as_given}
 use Rattle.nuttracking.specs.Sound.{IsSoundTracking, KnownIdsAreWrittenApart, HaveLawfulNumbers, times, known_ids}
 use Rattle.nuttracking.specs.Tracking.{TrackingState, nothing_tracked, pending, with_order}
 use Rattle.nuttracking.specs.declared.limits.TheConstants.{ORDER_LIMIT}
 use Rattle.nuttracking.specs.declared.order.Progress.TheVariants.{Pending}
-use Rattle.nuttracking.proofs.ActSteps.{less_than, sound_after_act, id_step, order_step, map_append, all_kept, keep_keep, dropped_front, orders_after, orders_handed_in, settles}
+use Rattle.nuttracking.proofs.ActSteps.{less_than, sound_after_act, id_step, order_step, map_append}
+use Rattle.nuttracking.proofs.ActSteps.{all_kept, keep_keep, dropped_front, orders_after}
+use Rattle.nuttracking.proofs.ActSteps.{orders_handed_in, settles}
 use Rattle.nuttracking.proofs.KeptSound.{either, not_below, lawful_with_order, lawful_settled}
 
 -- ids_are_read_back
-is_read : (text : List ℕ) (n : ℕ) (b : Bool) → (if b then Some (digits_number text) else None) ≡ Some n → (b ≡ true) × (digits_number text ≡ n)
+is_read : (text : List ℕ) (n : ℕ) (b : Bool) →
+    (if b then Some (digits_number text) else None) ≡ Some n → (b ≡ true) × (digits_number text ≡ n)
 is_read text n true e = (refl, ap (λ (o : Option ℕ). unwrap_or o 0) e)
 is_read text n false e = absurd (true≢false (sym (ap is_some e)))
 
@@ -34,7 +43,8 @@ text_read text n e =
 small_read : (text : List ℕ) (n : ℕ) → read_id text ≡ Some n → n < 2 ^ 128
 unfolding read_id
 small_read text n e =
-    let number : digits_number (id_text n) ≡ n = ap digits_number (sym (text_read text n e)) ∙ number_lowered text ∙ (is_read text n _ e).1 in
+    let number : digits_number (id_text n) ≡ n = ap digits_number (sym (text_read text n e)) ∙
+    number_lowered text ∙ (is_read text n _ e).1 in
     subst (λ (m : ℕ). m < 2 ^ 128) number (text_small n)
 
 pub read_is_written : ReadIsWritten
@@ -48,12 +58,19 @@ pub ids_are_plain : IdsArePlain
 ids_are_plain = record {
   long = id_text_length;
   digits = text_plain;
-  read = λ text id e. sym (length-map text to_ascii_lowercase) ∙ ap length (text_read text id e) ∙ id_text_length id;
+  read = λ text id e. sym (length-map text to_ascii_lowercase) ∙
+      ap length (text_read text id e) ∙ id_text_length id;
 }
 
 -- an_id_stands_for_one_order
 pub nothing_is_sound : IsSoundTracking nothing_tracked
-nothing_is_sound = record { ids_few = omega arith; orders_few = omega arith; small = λ id h. omega arith; once = λ id. omega arith }
+nothing_is_sound = record {
+  ids_few = omega arith;
+  orders_few = omega arith;
+  small =
+      λ id h. omega arith;
+  once = λ id. omega arith;
+}
 
 pub acts_keep_it_sound : ActsKeepItSound
 acts_keep_it_sound t [] s = s
@@ -78,7 +95,8 @@ lawful_acts_keep_numbers_lawful t (ordered place) lawful all = by_id t.ids
     by_id : (ids : List ℕ) → HaveLawfulNumbers (with_order place (record { ids = ids; orders = t.orders })).orders
     by_id [] = all
     by_id (id ∷ ids) = lawful_with_order place id _ t.orders all
-lawful_acts_keep_numbers_lawful t (reported place id number) lawful all = lawful_settled place id number t.orders lawful all
+lawful_acts_keep_numbers_lawful t (reported place id number) lawful all =
+    lawful_settled place id number t.orders lawful all
 
 -- ids_are_used_in_their_order
 pub first_in_first_out : FirstInFirstOut
@@ -91,7 +109,8 @@ first_in_first_out t (act ∷ acts) =
     let taken : List ℕ = taken_in t' acts in
     ap (λ (l : List ℕ). l ++ final) (map_append (λ (order : Given). order.id) (given_by t act) (given t' acts))
     ∙ append_assoc used later final ∙ ap (λ (l : List ℕ). used ++ l) (first_in_first_out t' acts)
-    ∙ sym (append_assoc used t'.ids taken) ∙ ap (λ (l : List ℕ). l ++ taken) (id_step t act) ∙ append_assoc t.ids (taken_by t act) taken
+    ∙ sym (append_assoc used t'.ids taken) ∙
+    ap (λ (l : List ℕ). l ++ taken) (id_step t act) ∙ append_assoc t.ids (taken_by t act) taken
 
 -- the_last_orders_are_kept
 pub the_last_are_kept : TheLastAreKept
@@ -110,5 +129,8 @@ pub its_driver_settles_it_once : ItsDriverSettlesItOnce
 its_driver_settles_it_once t place id later s e few =
     let k : ℕ = length (t.orders ++ pending place id ∷ []) - ORDER_LIMIT in
     let orders : (with_order place t).orders ≡ drop k t.orders ++ pending place id ∷ [] =
-    orders_after place id t.ids t.orders e ∙ sym (dropped_front k t.orders (pending place id ∷ []) (omega (arith, length-append t.orders (pending place id ∷ [])))) in
-    settles (with_order place t) place id Pending (drop k t.orders) [] later (sound_after_act t (ordered place) s) orders (omega arith)
+    orders_after place id t.ids t.orders e ∙
+    sym (dropped_front k t.orders (pending place id ∷ [])
+    (omega (arith, length-append t.orders (pending place id ∷ [])))) in
+    settles (with_order place t) place id Pending (drop k t.orders) [] later
+    (sound_after_act t (ordered place) s) orders (omega arith)

@@ -6,7 +6,8 @@ use Rattle.nuttracking.specs.Id.{hyphen, groups, id_text}
 use Rattle.nuttracking.proofs.Digits.{simple_is_digits}
 use Rattle.uuid.specs.Text.{lower, hyphenated_text, by_index, hex_digit, nibble, is_hyphen_place, digit_place}
 
-grouped : (f : ℕ → ℕ) → by_index 36 (λ k. if is_hyphen_place k then 45 else f (digit_place k)) ≡ join_with_byte hyphen (groups (by_index 32 f))
+grouped : (f : ℕ → ℕ) → by_index 36
+    (λ k. if is_hyphen_place k then 45 else f (digit_place k)) ≡ join_with_byte hyphen (groups (by_index 32 f))
 unfolding by_index
 grouped f = refl
 

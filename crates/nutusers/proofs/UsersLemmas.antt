@@ -1,5 +1,6 @@
 -- The users that the lines mean, a line at a time.
-use Rattle.std.proofs.Common.{◌≡◌, ℕ, true, false, List, [], ◌∷◌, ◌++◌, ◌∙◌, map, reverse, Option, None, Some, cond, codes, refl, sym, ap}
+use Rattle.std.proofs.Common.{◌≡◌, ℕ, true, false, List, [], ◌∷◌, ◌++◌, ◌∙◌}
+use Rattle.std.proofs.Common.{map, reverse, Option, None, Some, cond, codes, refl, sym, ap}
 use Rattle.std.specs.List.{find, filter_map, cons_option}
 use Rattle.std.specs.Prelude.{option_map}
 use Rattle.std.specs.Str.{bytes_eq}
@@ -9,7 +10,8 @@ use Rattle.nutusers.specs.Rights.{grant_of}
 use Rattle.nutusers.specs.Sections.{value_in, sections}
 use Rattle.nutusers.specs.File.{AreAccepted}
 use Rattle.nutusers.specs.Credentials.{is_user_name}
-use Rattle.nutusers.specs.UsersFile.{user_of, users_of, section_of, user_line_fault, users_format, RightsComeOfTheOwnSection}
+use Rattle.nutusers.specs.UsersFile.{user_of, users_of, section_of, user_line_fault, users_format}
+use Rattle.nutusers.specs.UsersFile.{RightsComeOfTheOwnSection}
 use Rattle.nutusers.specs.Users.{User, HaveOneNameEach, user_named}
 use Rattle.nutusers.proofs.NamesApart.{HasNames, not_there, names_apart, accepted_apart}
 use Rattle.nutusers.specs.UsersStep.{new_user, with_user_line, with_grant, users_with}
@@ -18,10 +20,15 @@ use Rattle.nutusers.proofs.Progress.{reverse-cons}
 use Rattle.nutusers.proofs.SectionLemmas.{MeansByLines, sections-line}
 
 -- a user with a line more
-user_of-line : (name : List ℕ) (line : ConfigLine) (lines : List ConfigLine) → user_of (name, line ∷ lines) ≡ with_user_line line (user_of (name, lines))
-user_of-line name line lines = ap (λ (grants : List Grant). record { name = name; password = value_in (codes "password") (line ∷ lines); grants = grants }) (grants_of (grant_of line) (filter_map grant_of lines))
+user_of-line : (name : List ℕ) (line : ConfigLine) (lines : List ConfigLine) →
+    user_of (name, line ∷ lines) ≡ with_user_line line (user_of (name, lines))
+user_of-line name line lines = ap
+    (λ (grants : List Grant). record
+    { name = name; password = value_in (codes "password") (line ∷ lines); grants = grants })
+    (grants_of (grant_of line) (filter_map grant_of lines))
   where
-    grants_of : (o : Option Grant) (grants : List Grant) → reverse (cons_option o grants) ≡ with_grant o (reverse grants)
+    grants_of : (o : Option Grant) (grants : List Grant) → reverse (cons_option o grants) ≡
+        with_grant o (reverse grants)
     grants_of None grants = refl
     grants_of (Some grant) grants = reverse-cons grant grants
 
@@ -29,7 +36,8 @@ user_by_lines : MeansByLines user_of new_user with_user_line
 user_by_lines = record { begins = λ name. refl; goes_on = user_of-line }
 
 -- the users of the lines read, and of one more
-pub users_of-line : (line : List ℕ) (lines : List (List ℕ)) → users_of (line ∷ lines) ≡ users_with (users_of lines) (read_config_line line)
+pub users_of-line : (line : List ℕ) (lines : List (List ℕ)) → users_of (line ∷ lines) ≡
+    users_with (users_of lines) (read_config_line line)
 users_of-line line lines = sections-line user_by_lines (read_config_line line) (map read_config_line lines)
 
 users_names : HasNames (λ (user : User). user.name) user_of user_line_fault
@@ -37,19 +45,28 @@ users_names = record { named = λ name lines. refl; is_new = λ all name fine. n
 
 -- no two users of accepted lines have one name
 pub users_apart : (lines : List (List ℕ)) → AreAccepted users_format lines → HaveOneNameEach (users_of lines)
-users_apart lines fine = names_apart (λ (user : User). user.name) (users_of lines) (accepted_apart users_names lines fine)
+users_apart lines fine = names_apart (λ (user : User). user.name) (users_of lines)
+    (accepted_apart users_names lines fine)
 
 -- a user is what the section of this name means
 map-reverse : {A B : Type 0} (f : A → B) (xs : List A) → map f (reverse xs) ≡ reverse (map f xs)
 map-reverse f [] = refl
-map-reverse f (x ∷ xs) = ap (map f) (reverse-cons x xs) ∙ map-append f (reverse xs) (x ∷ []) ∙ ap (λ front. front ++ f x ∷ []) (map-reverse f xs) ∙ sym (reverse-cons (f x) (map f xs))
+map-reverse f (x ∷ xs) = ap (map f) (reverse-cons x xs) ∙
+    map-append f (reverse xs) (x ∷ []) ∙
+    ap (λ front. front ++ f x ∷ []) (map-reverse f xs) ∙ sym (reverse-cons (f x) (map f xs))
 
-named_in : (name : List ℕ) (ss : List (List ℕ × List ConfigLine)) → user_named name (map user_of ss) ≡ option_map user_of (find (λ s. bytes_eq s.0 name) ss)
+named_in : (name : List ℕ) (ss : List (List ℕ × List ConfigLine)) →
+    user_named name (map user_of ss) ≡ option_map user_of (find (λ s. bytes_eq s.0 name) ss)
 named_in name [] = refl
-named_in name (s ∷ ss) = elim (bytes_eq s.0 name) as (λ b. cond b (Some (user_of s)) (user_named name (map user_of ss)) ≡ option_map user_of (cond b (Some s) (find (λ t. bytes_eq t.0 name) ss))) [ true ↦ refl | false ↦ named_in name ss ]
+named_in name (s ∷ ss) = elim (bytes_eq s.0 name) as
+    (λ b. cond b (Some (user_of s)) (user_named name (map user_of ss)) ≡
+    option_map user_of (cond b (Some s) (find (λ t. bytes_eq t.0 name) ss)))
+    [ true ↦ refl | false ↦ named_in name ss ]
 
-user_is : (name : List ℕ) (lines : List (List ℕ)) → user_named name (users_of lines) ≡ option_map user_of (section_of name lines)
-user_is name lines = let ss = sections (map read_config_line lines) in ap (user_named name) (sym (map-reverse user_of ss)) ∙ named_in name (reverse ss)
+user_is : (name : List ℕ) (lines : List (List ℕ)) → user_named name (users_of lines) ≡
+    option_map user_of (section_of name lines)
+user_is name lines = let ss = sections (map read_config_line lines) in
+    ap (user_named name) (sym (map-reverse user_of ss)) ∙ named_in name (reverse ss)
 
 pub rights_of_section : RightsComeOfTheOwnSection
 rights_of_section lines other name password right same = rw (user_is name lines, user_is name other, same) refl

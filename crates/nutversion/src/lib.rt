@@ -2,4 +2,4 @@
 #![tactic(auto)]
 
 /// The version. Between releases it is the next one's with `~dev`, which Debian sorts before it.
-pub const VERSION: &str = "0.1.0~dev";
+pub const VERSION: &str = "1.0.0";

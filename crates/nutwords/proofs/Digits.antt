@@ -1,5 +1,7 @@
 -- Numbers from their digits.
-use Rattle.std.proofs.Common.{◌≡◌, ℕ, ◌+◌, ◌-◌, ◌*◌, ◌<◌, ◌≤◌, ◌∙◌, List, [], ◌∷◌, Some, None, Bool, true, false, sym, ap, refl, arith, length, drop, get_or}
+use Rattle.std.proofs.Common.{◌≡◌, ℕ, ◌+◌, ◌-◌, ◌*◌, ◌<◌, ◌≤◌}
+use Rattle.std.proofs.Common.{◌∙◌, List, [], ◌∷◌, Some, None, Bool, true, false, sym}
+use Rattle.std.proofs.Common.{ap, refl, arith, length, drop, get_or}
 use Rattle.std.specs.Prelude.{◌&&◌, if◌then◌else◌}
 use Rattle.std.proofs.lemmas.Grind.{common_steps}
 use Rattle.std.proofs.lemmas.Bool.Decides.{nat_tests}
@@ -14,7 +16,8 @@ use Rattle.nutwords.specs.Natural.{is_digit, is_natural, has_no_leading_zero, up
 digits_value_after-least : (n : ℕ) (ds : List ℕ) → n ≤ digits_value_after 10 n ds
 digits_value_after-least n [] = omega arith
 digits_value_after-least n (d ∷ ds) =
-    let h : n * 10 + digit_value d ≤ digits_value_after 10 (n * 10 + digit_value d) ds = digits_value_after-least (n * 10 + digit_value d) ds in
+    let h : n * 10 + digit_value d ≤ digits_value_after 10 (n * 10 + digit_value d) ds =
+    digits_value_after-least (n * 10 + digit_value d) ds in
     omega (arith, h)
 
 digit_value-digit : (d : ℕ) → is_digit d ≡ true → digit_value d ≡ d - 48
@@ -27,7 +30,8 @@ both_hold false b h = absurd (cc)
 pub all_digits : (ds : List ℕ) → is_natural ds ≡ true → list_all is_digit ds ≡ true
 all_digits ds h = (both_hold (list_all is_digit ds) (has_no_leading_zero ds) h).0
 
-pub digit_at : (ds : List ℕ) (i : ℕ) → list_all is_digit ds ≡ true → i < length ds → is_digit (get_or ds i 0) ≡ true
+pub digit_at : (ds : List ℕ) (i : ℕ) → list_all is_digit ds ≡ true → i < length ds →
+    is_digit (get_or ds i 0) ≡ true
 digit_at ds i h k = grind (arith, common_steps, list_all_at, h, k)
 
 -- a number past the most stays past it
@@ -38,17 +42,25 @@ up_to-value : (most n v : ℕ) → Some v ≡ up_to most n → v ≡ n
 up_to-value most n v e = grind (arith, nat_tests, common_steps, e)
 
 -- the number up to a digit is no greater than the whole
-pub past_digit : (v : ℕ) (ds : List ℕ) (i : ℕ) → list_all is_digit ds ≡ true → i < length ds → digits_value_after 10 v (drop i ds) ≡ digits_value 10 ds → v * 10 + (get_or ds i 0 - 48) ≤ digits_value 10 ds
+pub past_digit : (v : ℕ) (ds : List ℕ) (i : ℕ) → list_all is_digit ds ≡ true → i <
+    length ds → digits_value_after 10 v (drop i ds) ≡ digits_value 10 ds → v * 10 +
+    (get_or ds i 0 - 48) ≤ digits_value 10 ds
 past_digit v ds i all within e =
     let d : ℕ = get_or ds i 0 in
     let split : drop i ds ≡ d ∷ drop (i + 1) ds = drop_more ds i 0 within in
-    let least : v * 10 + digit_value d ≤ digits_value_after 10 (v * 10 + digit_value d) (drop (i + 1) ds) = digits_value_after-least (v * 10 + digit_value d) (drop (i + 1) ds) in
-    let same : digits_value_after 10 v (drop i ds) ≡ digits_value_after 10 (v * 10 + digit_value d) (drop (i + 1) ds) = ap (λ xs. digits_value_after 10 v xs) split in
+    let least : v * 10 + digit_value d ≤
+    digits_value_after 10 (v * 10 + digit_value d) (drop (i + 1) ds) =
+    digits_value_after-least (v * 10 + digit_value d) (drop (i + 1) ds) in
+    let same : digits_value_after 10 v (drop i ds) ≡
+    digits_value_after 10 (v * 10 + digit_value d) (drop (i + 1) ds) = ap (λ xs. digits_value_after 10 v xs) split in
     let digit : digit_value d ≡ d - 48 = digit_value-digit d (digit_at ds i all within) in
     omega (arith, least, same, e, digit)
 
 -- one digit more
-pub with_next : (most v next : ℕ) (ds : List ℕ) (i : ℕ) → list_all is_digit ds ≡ true → i < length ds → Some next ≡ up_to most (v * 10 + (get_or ds i 0 - 48)) → digits_value_after 10 v (drop i ds) ≡ digits_value 10 ds → digits_value_after 10 next (drop (i + 1) ds) ≡ digits_value 10 ds
+pub with_next : (most v next : ℕ) (ds : List ℕ) (i : ℕ) → list_all is_digit ds ≡ true →
+    i < length ds → Some next ≡ up_to most (v * 10 + (get_or ds i 0 - 48)) →
+    digits_value_after 10 v (drop i ds) ≡ digits_value 10 ds →
+    digits_value_after 10 next (drop (i + 1) ds) ≡ digits_value 10 ds
 with_next most v next ds i all within n e =
     let d : ℕ = get_or ds i 0 in
     let split : drop i ds ≡ d ∷ drop (i + 1) ds = drop_more ds i 0 within in

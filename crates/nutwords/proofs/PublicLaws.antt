@@ -1,14 +1,20 @@
--- The laws of this crate that a proof in a crate above may cite: each is what a function of src/laws.rt ensures.
+-- The laws of this crate that a proof in a crate above may cite: each is what a function of
+-- src/laws.rt ensures.
 use Rattle.std.proofs.Common.{[], ◌++◌, drop, refl, sym, subst}
 use Rattle.nutwords.specs.Answers.{FirstAnswersAreTheFirst, AnswersAreCutInOneWay}
 use Rattle.nutwords.specs.Found.{EachCallTakesALine, EachCutIsFound, FoundLineIsFirst, RestIsUnfinished, RestIsOverlong}
 use Rattle.nutwords.specs.Frame.{FrameIsInThreeParts}
-use Rattle.nutwords.specs.Lines.{IsCutInto, Unfinished, line, unfinished, overlong, PiecesGiveTheLines, CutsDoNotMatter, EachTextIsCut, OneCutting, NoByteIsLost, LinesAreJoined}
+use Rattle.nutwords.specs.Lines.{IsCutInto, Unfinished, line, unfinished, overlong}
+use Rattle.nutwords.specs.Lines.{PiecesGiveTheLines, CutsDoNotMatter, EachTextIsCut, OneCutting}
+use Rattle.nutwords.specs.Lines.{NoByteIsLost, LinesAreJoined}
 use Rattle.nutwords.specs.Listing.{LinesAreReadBack, ListingIsReadBack, OneReading}
-use Rattle.nutwords.specs.Meaning.{WordsOrFault, NotBoth, OneListOfWords, OneFault, ReadLineIsTheGrammar, ReadLineIsTheFault}
+use Rattle.nutwords.specs.Meaning.{WordsOrFault, NotBoth, OneListOfWords, OneFault}
+use Rattle.nutwords.specs.Meaning.{ReadLineIsTheGrammar, ReadLineIsTheFault}
 use Rattle.nutwords.specs.Spelled.{QuotedIsSpelled, BareIsSpelled, PlainStandsForItself}
 use Rattle.nutwords.specs.Spelling.{QuotedIsShort}
-use Rattle.nutwords.specs.SplitLine.{FirstLineIsCutOff, NoLineWithoutLf, HeldGoesInFront, FirstLineAndTheRestAreAll, FirstLineIsTheFrontOfItsLength, FirstLfEndsTheFirstLine}
+use Rattle.nutwords.specs.SplitLine.{FirstLineIsCutOff, NoLineWithoutLf, HeldGoesInFront}
+use Rattle.nutwords.specs.SplitLine.{FirstLineAndTheRestAreAll, FirstLineIsTheFrontOfItsLength}
+use Rattle.nutwords.specs.SplitLine.{FirstLfEndsTheFirstLine}
 use Rattle.nutwords.specs.WholeLines.{WholeLinesAreTheCut, WholeLinesAndTheRestAreAll, RestIsThatBehindTheFirst}
 use Rattle.nutwords.proofs.Answers as answers
 use Rattle.nutwords.proofs.Backslashes as backslashes
@@ -62,7 +68,8 @@ quoted_is_short = λ word. backslashes.quoted_short word
 
 -- first_line_is_cut_off
 pub first_line_is_cut_off : FirstLineIsCutOff
-first_line_is_cut_off = λ text first rest. (λ h. (split_line-whole text first rest h, line-no_lf text first rest h), λ p. line-cut text first rest p.0 p.1)
+first_line_is_cut_off = λ text first rest.
+    (λ h. (split_line-whole text first rest h, line-no_lf text first rest h), λ p. line-cut text first rest p.0 p.1)
 
 pub no_line_without_lf : NoLineWithoutLf
 no_line_without_lf = λ text. (λ h. none-no_lf text h, λ h. no_lf-none text h)
@@ -81,7 +88,8 @@ first_lf_ends_the_first_line = found_end
 
 -- each_call_takes_a_line
 pub each_call_takes_a_line : EachCallTakesALine
-each_call_takes_a_line = λ held piece first used f. (split_line-whole (held ++ piece) first (drop used piece) f.0, f.1, f.2)
+each_call_takes_a_line = λ held piece first used f.
+    (split_line-whole (held ++ piece) first (drop used piece) f.0, f.1, f.2)
 
 pub each_cut_is_found : EachCutIsFound
 each_cut_is_found = λ held piece after first used none cut. cut-found held piece after first used none cut
@@ -90,7 +98,8 @@ pub found_line_is_first : FoundLineIsFirst
 found_line_is_first = λ held piece first used lines tail f rest. line f.0 f.3 rest
 
 pub rest_is_unfinished : RestIsUnfinished
-rest_is_unfinished = λ held piece after f. subst (λ end. IsCutInto (held ++ piece) [] (Unfinished end)) (sym f.2) (unfinished f.0 f.1)
+rest_is_unfinished = λ held piece after f. subst
+    (λ end. IsCutInto (held ++ piece) [] (Unfinished end)) (sym f.2) (unfinished f.0 f.1)
 
 pub rest_is_overlong : RestIsOverlong
 rest_is_overlong = λ held piece after f. overlong f.0 f.1
@@ -112,7 +121,8 @@ pub no_byte_is_lost : NoByteIsLost
 no_byte_is_lost = λ text rest lines cut. IsCutInto-whole text rest lines (Unfinished rest) cut refl
 
 pub lines_are_joined : LinesAreJoined
-lines_are_joined = λ text more lines others tail cut behind. IsCutInto-append text more lines others (Unfinished []) tail cut refl behind
+lines_are_joined = λ text more lines others tail cut behind. IsCutInto-append text more lines
+    others (Unfinished []) tail cut refl behind
 
 -- whole_lines_are_the_cut
 pub whole_lines_are_the_cut : WholeLinesAreTheCut
@@ -126,10 +136,12 @@ rest_is_that_behind_the_first = λ bytes first rest split short. rest_behind byt
 
 -- listing_is_read_back
 pub lines_are_read_back : LinesAreReadBack
-lines_are_read_back = λ kind names asked items rows written. back.lines_are_read_back kind names asked items rows written
+lines_are_read_back = λ kind names asked items rows written. back.lines_are_read_back kind names
+    asked items rows written
 
 pub listing_is_read_back : ListingIsReadBack
-listing_is_read_back = λ kind names asked items rows written fits each. back.listing_is_read_back kind names asked items rows (written, fits, each)
+listing_is_read_back = λ kind names asked items rows written fits each. back.listing_is_read_back
+    kind names asked items rows (written, fits, each)
 
 pub frame_is_in_three_parts : FrameIsInThreeParts
 frame_is_in_three_parts = λ kind names items. frame_in_parts kind names items
@@ -139,7 +151,8 @@ one_reading = λ text rows others reads also. ReadsAsLines-one text rows others 
 
 -- answers_are_cut_in_one_way
 pub first_answers_are_the_first : FirstAnswersAreTheFirst
-first_answers_are_the_first = λ all firsts rest each shaped same. answers.first_answers all firsts rest each shaped same
+first_answers_are_the_first = λ all firsts rest each shaped same. answers.first_answers all firsts
+    rest each shaped same
 
 pub answers_are_cut_in_one_way : AnswersAreCutInOneWay
 answers_are_cut_in_one_way = λ all others each shaped same. answers.one_way all others each shaped same

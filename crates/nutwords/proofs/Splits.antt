@@ -1,5 +1,7 @@
 -- The first line of some bytes, and their first LF.
-use Rattle.std.proofs.Common.{◌≡◌, ℕ, zero, suc, ◌<◌, Bool, true, false, eqb, List, [], ◌∷◌, ◌++◌, length, drop, Some, None, refl, sym, subst, ap, ◌∙◌, arith, append-nil, length-append}
+use Rattle.std.proofs.Common.{◌≡◌, ℕ, zero, suc, ◌<◌, Bool, true, false, eqb, List, []}
+use Rattle.std.proofs.Common.{◌∷◌, ◌++◌, length, drop, Some, None, refl, sym, subst, ap}
+use Rattle.std.proofs.Common.{◌∙◌, arith, append-nil, length-append}
 use Rattle.std.specs.Prelude.{◌||◌}
 use Rattle.arrayvec.specs.ArrayVec.{ArrayVec}
 use Rattle.nutwords.specs.SplitLine.{split_line, has_lf}
@@ -20,14 +22,17 @@ both false y h k = k
 -- no LF, no line
 pub no_lf-none : (text : List ℕ) → has_lf text ≡ false → split_line text ≡ None
 no_lf-none [] h = refl
-no_lf-none (x ∷ text) h = let p = neither (eqb x 10) (has_lf text) h in split_line-other x text p.0 ∙ ap (with_byte x) (no_lf-none text p.1)
+no_lf-none (x ∷ text) h = let p = neither (eqb x 10) (has_lf text) h in
+    split_line-other x text p.0 ∙ ap (with_byte x) (no_lf-none text p.1)
 
 pub none-no_lf : (text : List ℕ) → split_line text ≡ None → has_lf text ≡ false
 none-no_lf [] h = refl
 none-no_lf (x ∷ text) h =
     elim (eqb x 10) as (λ v. eqb x 10 ≡ v → has_lf (x ∷ text) ≡ false) [
       | true ↦ λ e. absurd (some_none (sym (at_lf x text e) ∙ h))
-      | false ↦ λ e. both (eqb x 10) (has_lf text) e (none-no_lf text (none-of_map (λ s. (x ∷ s.0, s.1)) (split_line text) (sym (split_line-other x text e) ∙ h)))
+      | false ↦ λ e. both (eqb x 10) (has_lf text) e
+          (none-no_lf text (none-of_map (λ s. (x ∷ s.0, s.1)) (split_line text)
+          (sym (split_line-other x text e) ∙ h)))
     ] refl
 
 -- the first line has no LF
@@ -42,11 +47,14 @@ line-no_lf (x ∷ text) first rest h =
     ] refl
 
 -- and what has none is cut off at the LF after it
-pub line-cut : (text first rest : List ℕ) → text ≡ first ++ 10 ∷ rest → has_lf first ≡ false → split_line text ≡ Some (first, rest)
-line-cut text first rest whole none = ap split_line whole ∙ split_line-append first (10 ∷ rest) (no_lf-none first none) ∙ ap (λ t. Some (t, rest)) (append-nil first)
+pub line-cut : (text first rest : List ℕ) → text ≡ first ++ 10 ∷ rest → has_lf first ≡
+    false → split_line text ≡ Some (first, rest)
+line-cut text first rest whole none = ap split_line whole ∙
+    split_line-append first (10 ∷ rest) (no_lf-none first none) ∙ ap (λ t. Some (t, rest)) (append-nil first)
 
 -- a line that wasn't whole takes some of the piece
-pub cut-found : (held piece after : List ℕ) (line : ArrayVec ℕ) (used : ℕ) → split_line held ≡ None → Cuts held piece (Line line used) after → FindsLine held piece line.items used
+pub cut-found : (held piece after : List ℕ) (line : ArrayVec ℕ) (used : ℕ) →
+    split_line held ≡ None → Cuts held piece (Line line used) after → FindsLine held piece line.items used
 cut-found held piece after line used none c =
     let b = split_line-behind held piece line.items (drop used piece) none c.0 in
     let l : length piece ≡ length (b.0 ++ 10 ∷ drop used piece) = ap length b.2 in

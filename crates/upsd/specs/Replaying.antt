@@ -23,7 +23,8 @@ IsReplay contents failures s script old (Ok u) new = (first_bad_line s.list scri
 IsReplay contents failures s script old (Err (faults.BadEvent n)) new =
     (first_bad_line s.list script ≡ Some n) × (new ≡ old)
 IsReplay contents failures s script old (Err faults.Memory) new = new ≡ old
-IsReplay contents failures s script old (Err faults.Write) new = (first_bad_line s.list script ≡ None)
+IsReplay contents failures s script old (Err faults.Write) new =
+    (first_bad_line s.list script ≡ None)
     × ((output : List ℕ) × IsOutput s script output × WriteFailed contents failures old output new)
 
 -- How the replay of these lines of a script ends.
@@ -35,8 +36,8 @@ EndsReplay contents failures s lines script old (Err ending) new =
     (fault : ReplayFault) × (ending ≡ ending_of_replay script fault)
     × IsReplay contents failures s lines old (Err fault) new
 
--- The script was read, and its whole lines were replayed over a new server of this configuration, of
--- the greatest age that the script says. `gives` is what reading the file of a path gives.
+-- The script was read, and its whole lines were replayed over a new server of this configuration,
+-- of the greatest age that the script says. `gives` is what reading the file of a path gives.
 pub record ReplaysOver {W : Type 0} (contents : W → Option (List ℕ)) (failures : W → ℕ)
     (gives : Readings) (c : Configuration) (script : Bor (List ℕ)) (old : W)
     (replayed : Result (Unit {0}) ReplayFault) (new : W) : Type 0 where

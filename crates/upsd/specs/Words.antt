@@ -10,7 +10,8 @@ use Rattle.nutcore.specs.declared.max_age.TheConstants.{MAX_AGE_LEAST, MAX_AGE_M
 use Rattle.upsd.specs.declared.task.TheConstants.{DEFAULT_ADDRESS, RECORD_MIB_MOST}
 
 -- `serve --ups F --users F [--vars F] [--ids F] [--listen A:P] [--maxage N] [--record F]
--- [--record-limit N] [--priorities] [--nut-bytes]`. The address is the default one where none is named.
+-- [--record-limit N] [--priorities] [--nut-bytes]`. The address is the default one where none is
+-- named.
 abbrev pub serve_words : List Row
 serve_words =
     (long_option (codes "ups"), Required)

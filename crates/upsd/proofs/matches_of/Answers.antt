@@ -28,5 +28,6 @@ returns c =
     let words = map string_bytes c.args.words.now in
     record {
       matches = subst (λ (a : App). IfOk result (HasMatchesOf a words)) upsd c.try_get_matches_from.ensures.matches;
-      fails = subst (λ (a : App). is_simple_and_free a ≡ true → FailsBy (fault_of a words) result) upsd c.try_get_matches_from.ensures.kinds is_free;
+      fails = subst (λ (a : App). is_simple_and_free a ≡ true →
+          FailsBy (fault_of a words) result) upsd c.try_get_matches_from.ensures.kinds is_free;
     }

@@ -9,4 +9,5 @@ pub returns : goal.returns
 returns c =
     let begun : app_of c.after_help-serve.result ≡ new_app (codes "serve") =
     ap app_of_fields c.after_help-serve.ensures ∙ ap app_of_fields c.about.ensures ∙ c.new.ensures.app in
-    subst (λ a. IfOk c.with_words.result (λ made. app_of made ≡ with_words a serve_words)) begun c.with_words.ensures.app
+    subst (λ a. IfOk c.with_words.result (λ made. app_of made ≡ with_words a serve_words)) begun
+    c.with_words.ensures.app

@@ -16,7 +16,8 @@ loop-request-init g c =
     let reader = reader_of c.args.session.now in
     let writer = writer_of c.args.session.now in
     record {
-      under_way = subst (λ items. IsUnderWay g.R.Source.remaining g.R.Source.failures g.W.Sink.contents g.W.Sink.failures
+      under_way = subst (λ items. IsUnderWay g.R.Source.remaining g.R.Source.failures
+          g.W.Sink.contents g.W.Sink.failures
           all old reader writer items all old reader writer) (sym c.new-items.ensures.items)
           (starts g.R.Source.remaining g.R.Source.failures g.W.Sink.contents g.W.Sink.failures all old reader writer);
       goes_on = c.if-session.false;
@@ -33,11 +34,15 @@ returns-in-Err-clause-gives g c h =
     let kept = unread_of l.session in
     let mid = reader_of l.session in
     let middle = writer_of l.session in
-    let next = comes_next g.R.Source.remaining g.R.Source.failures g.W.Sink.contents g.W.Sink.failures all old reader writer
-    l.items.items l.request-index request kept mid middle l.invariant.under_way c.loop-request-test.true c.request-item.is in
+    let next = comes_next g.R.Source.remaining g.R.Source.failures g.W.Sink.contents
+    g.W.Sink.failures all old reader writer
+    l.items.items l.request-index request kept mid middle l.invariant.under_way
+    c.loop-request-test.true c.request-item.is in
     inl (
-      subst (λ requests. RequestsGive g.R.Source.remaining g.R.Source.failures g.W.Sink.contents g.W.Sink.failures requests old reader writer
-          (Err c.in-Err.fault) (unread_of c.ask.new.session) (reader_of c.ask.new.session) (writer_of c.ask.new.session)) c.as_slice-request-items.ensures.value
+      subst (λ requests. RequestsGive g.R.Source.remaining g.R.Source.failures g.W.Sink.contents
+          g.W.Sink.failures requests old reader writer
+          (Err c.in-Err.fault) (unread_of c.ask.new.session) (reader_of c.ask.new.session)
+          (writer_of c.ask.new.session)) c.as_slice-request-items.ensures.value
           (ends_early g.R.Source.remaining g.R.Source.failures g.W.Sink.contents g.W.Sink.failures all old reader writer
           l.items.items request (drop (l.request-index + 1) all) kept mid middle next
           (unread_of c.ask.new.session) (reader_of c.ask.new.session) (writer_of c.ask.new.session) c.in-Err.fault
@@ -56,10 +61,13 @@ loop-request-preserved g c =
     let kept = unread_of l.session in
     let mid = reader_of l.session in
     let middle = writer_of l.session in
-    let next = comes_next g.R.Source.remaining g.R.Source.failures g.W.Sink.contents g.W.Sink.failures all old reader writer
-    l.items.items l.request-index request kept mid middle l.invariant.under_way c.loop-request-test.true c.request-item.is in
+    let next = comes_next g.R.Source.remaining g.R.Source.failures g.W.Sink.contents
+    g.W.Sink.failures all old reader writer
+    l.items.items l.request-index request kept mid middle l.invariant.under_way
+    c.loop-request-test.true c.request-item.is in
     record {
-      under_way = goes_further g.R.Source.remaining g.R.Source.failures g.W.Sink.contents g.W.Sink.failures all old reader writer
+      under_way = goes_further g.R.Source.remaining g.R.Source.failures g.W.Sink.contents
+          g.W.Sink.failures all old reader writer
           l.items.items request (drop (l.request-index + 1) all) kept mid middle next
           (unread_of c.ask.new.session) (reader_of c.ask.new.session) (writer_of c.ask.new.session) c.in-Ok.items.items
           (c.in-Ok.ensures.reply l.invariant.goes_on);
@@ -78,13 +86,20 @@ returns-clause-gives g c h =
     let kept = unread_of l.session in
     let after = reader_of l.session in
     let sent = writer_of l.session in
-    let none : drop l.request-index all ≡ [] = at_drop_all (λ (rs : List Request). rs) all l.request-index (omega arith) in
-    let way = subst (λ rs. IsUnderWay g.R.Source.remaining g.R.Source.failures g.W.Sink.contents g.W.Sink.failures all old reader writer items rs kept after sent)
+    let none : drop l.request-index all ≡ [] =
+    at_drop_all (λ (rs : List Request). rs) all l.request-index (omega arith) in
+    let way = subst (λ rs. IsUnderWay g.R.Source.remaining g.R.Source.failures g.W.Sink.contents
+    g.W.Sink.failures all old reader writer items rs kept after sent)
     none l.invariant.under_way in
-    let given = ends_well g.R.Source.remaining g.R.Source.failures g.W.Sink.contents g.W.Sink.failures all old reader writer items kept after sent way in
-    let text = subst (λ its. PrintGives g.O.Sink.contents g.O.Sink.failures (shown c.args.is_terminal (text_of form its)) c.args.out.now c.print-printed.result c.print-printed.new.out)
+    let given = ends_well g.R.Source.remaining g.R.Source.failures g.W.Sink.contents
+    g.W.Sink.failures all old reader writer items kept after sent way in
+    let text = subst (λ its. PrintGives g.O.Sink.contents g.O.Sink.failures
+    (shown c.args.is_terminal (text_of form its)) c.args.out.now c.print-printed.result c.print-printed.new.out)
     c.as_slice.ensures.value c.print-printed.ensures in
-    let ran = run_printed g.R.Source.remaining g.R.Source.failures g.W.Sink.contents g.W.Sink.failures g.O.Sink.contents g.O.Sink.failures all form c.args.is_terminal old kept
+    let ran = run_printed g.R.Source.remaining g.R.Source.failures g.W.Sink.contents
+    g.W.Sink.failures g.O.Sink.contents g.O.Sink.failures all form c.args.is_terminal old kept
     reader after writer sent c.args.out.now c.print-printed.new.out items c.print-printed.result given text in
-    subst (λ rs. RunGives g.R.Source.remaining g.R.Source.failures g.W.Sink.contents g.W.Sink.failures g.O.Sink.contents g.O.Sink.failures rs form c.args.is_terminal old
-    reader writer c.args.out.now c.print-printed.result kept after sent c.print-printed.new.out) c.as_slice-request-items.ensures.value ran
+    subst (λ rs. RunGives g.R.Source.remaining g.R.Source.failures g.W.Sink.contents
+    g.W.Sink.failures g.O.Sink.contents g.O.Sink.failures rs form c.args.is_terminal old
+    reader writer c.args.out.now c.print-printed.result kept after sent c.print-printed.new.out)
+    c.as_slice-request-items.ensures.value ran

@@ -6,7 +6,9 @@ use Rattle.nutclient.proofs.engine.run.Given as goal
 -- the requests up to here are granted
 abbrev pub invariant-loop-request : goal.invariant-loop-request
 invariant-loop-request g l = record {
-  under_way : IsUnderWay g.R.Source.remaining g.R.Source.failures g.W.Sink.contents g.W.Sink.failures l.request-items (unread_of l.fn.session) (reader_of l.fn.session) (writer_of l.fn.session)
-      l.items.items (drop l.request-index l.request-items) (unread_of l.session) (reader_of l.session) (writer_of l.session);
+  under_way : IsUnderWay g.R.Source.remaining g.R.Source.failures g.W.Sink.contents
+      g.W.Sink.failures l.request-items (unread_of l.fn.session) (reader_of l.fn.session) (writer_of l.fn.session)
+      l.items.items (drop l.request-index l.request-items) (unread_of l.session)
+      (reader_of l.session) (writer_of l.session);
   goes_on : l.session.is_over ≡ false;
 }

@@ -5,7 +5,8 @@ use Rattle.nutclient.proofs.shown.push_escape.Given as goal
 
 -- what is printed of the escape, and what is left of it, is all of it
 abbrev pub invariant-rest : goal.invariant-rest
-invariant-rest l = (escape_byte_end l.rest ≤ 4) × (l.printed.items ++ escape_byte_rest l.rest ≡ l.initial.printed.items ++ escape_ascii l.byte)
+invariant-rest l = (escape_byte_end l.rest ≤ 4) ×
+    (l.printed.items ++ escape_byte_rest l.rest ≡ l.initial.printed.items ++ escape_ascii l.byte)
 
 abbrev pub decreases-rest : goal.decreases-rest
 decreases-rest l = escape_byte_left l.rest

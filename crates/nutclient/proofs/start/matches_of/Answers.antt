@@ -12,7 +12,10 @@ pub returns : goal.returns
 returns g c =
     let name = ap (λ text. program_with text []) (c.name-name.ensures.value ∙ ap name_of c.PROGRAM.ensures) in
     let begun = ap app_of_fields c.about.ensures ∙ c.new.ensures.app in
-    let described = ap app_of_fields c.after_help.ensures ∙ ap app_of_fields c.version.ensures ∙ ap versioned begun in
-    let named : app_of c.in_ok-command.command ≡ program_with (name_of g.C.Client.PROGRAM) [] = ap app_of_fields c.in_ok-command.ensures.0 ∙ described ∙ name in
+    let described = ap app_of_fields c.after_help.ensures ∙ ap app_of_fields c.version.ensures ∙
+    ap versioned begun in
+    let named : app_of c.in_ok-command.command ≡ program_with (name_of g.C.Client.PROGRAM) [] =
+    ap app_of_fields c.in_ok-command.ensures.0 ∙ described ∙ name in
     let taken = c.in_ok-with_words.ensures.app ∙ ap₂ with_words named c.words.ensures in
-    subst (λ (a : App). IfOk c.try_get_matches_from.result (HasMatchesOf a (map string_bytes c.args.words.now))) taken c.try_get_matches_from.ensures.matches
+    subst (λ (a : App). IfOk c.try_get_matches_from.result
+    (HasMatchesOf a (map string_bytes c.args.words.now))) taken c.try_get_matches_from.ensures.matches

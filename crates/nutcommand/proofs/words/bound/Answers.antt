@@ -1,4 +1,5 @@
-use Rattle.std.proofs.Common.{◌≡◌, ◌∙◌, ◌++◌, ◌∷◌, ◌&&◌, [], Bool, List, true, false, ap, map, not, refl, rules}
+use Rattle.std.proofs.Common.{◌≡◌, ◌∙◌, ◌++◌, ◌∷◌, ◌&&◌, [], Bool, List}
+use Rattle.std.proofs.Common.{true, false, ap, map, not, refl, rules}
 use Rattle.std.specs.Prelude.{ℕ, IfOk, Result, Ok, Err}
 use denote.Ref.{Bor}
 use Rattle.clap.specs.Walk.{is_empty, texts}
@@ -36,7 +37,8 @@ empty_map : {X Y : Type 0} (f : X → Y) (xs : List X) → is_empty xs ≡ is_em
 empty_map f [] = refl
 empty_map f (x ∷ xs) = search rules
 
-same_texts : (names : List (Bor (List ℕ))) → map (λ (n : ArgPredicate × Bor (List ℕ)). n.1.now) (map (λ n. (IsPresent, n)) names) ≡ texts names
+same_texts : (names : List (Bor (List ℕ))) →
+    map (λ (n : ArgPredicate × Bor (List ℕ)). n.1.now) (map (λ n. (IsPresent, n)) names) ≡ texts names
 same_texts [] = refl
 same_texts (name ∷ names) = ap (λ ns. name.now ∷ ns) (same_texts names)
 
@@ -57,16 +59,19 @@ excludes old new others free local (same, added) =
 needs : (old new : Arg) (others : List (Bor (List ℕ))) → (rule_of old).is_free ≡ true → old.global ≡ false
     → AddsRequirements old new (map (λ n. (IsPresent, n)) others) → IsWord (rule_of old, Needs (texts others)) new
 needs old new others free local (same, added) =
-    let part = third (not old.exclusive) (is_empty old.conflicts.items) (is_empty old.needs.items) (is_empty new.needs.items) _ free in
+    let part = third (not old.exclusive) (is_empty old.conflicts.items) (is_empty old.needs.items)
+    (is_empty new.needs.items) _ free in
     let are = added ∙ ap (λ xs. xs ++ map (λ n. (IsPresent, n)) others) (is_none old.needs.items part.0) in
     let names = ap (map (λ n. n.1.now)) are ∙ same_texts others in
     let decides = part.1 ∙ empty_map (λ n. n.1.now) new.needs.items ∙ ap is_empty names in
     ((ap rule_of same ∙ ap (freed old) decides, ap is_global same ∙ local), names)
 
-stands_unless : (old new : Arg) (others : List (Bor (List ℕ))) → (rule_of old).is_free ≡ true → old.global ≡ false
+stands_unless : (old new : Arg) (others : List (Bor (List ℕ))) → (rule_of old).is_free ≡
+    true → old.global ≡ false
     → AddsRequiredUnless old new others → IsWord (rule_of old, StandsUnless (texts others)) new
 stands_unless old new others free local (same, added) =
-    let part = sixth (not old.exclusive) (is_empty old.conflicts.items) (is_empty old.needs.items) (is_empty old.r_ifs.items)
+    let part = sixth (not old.exclusive) (is_empty old.conflicts.items) (is_empty old.needs.items)
+    (is_empty old.r_ifs.items)
     (is_empty old.r_ifs_all.items) (is_empty old.r_unless.items) (is_empty new.r_unless.items) _ free in
     let are = added ∙ ap (λ xs. xs ++ others) (is_none old.r_unless.items part.0) in
     let decides = part.1 ∙ ap is_empty are ∙ empty_map (λ s. s.now) others in
@@ -79,7 +84,8 @@ if_ok P Q (Err e) leads is = tt
 
 pub returns-in-Excludes : goal.returns-in-Excludes
 returns-in-Excludes c free local =
-    rw c.in-Excludes.is (if_ok _ _ _ (λ new. excludes c.args.arg new c.in-Excludes.names.now free local) c.conflicts_with_all.ensures)
+    rw c.in-Excludes.is (if_ok _ _ _
+    (λ new. excludes c.args.arg new c.in-Excludes.names.now free local) c.conflicts_with_all.ensures)
 
 pub returns-in-Needs : goal.returns-in-Needs
 returns-in-Needs c free local =
@@ -87,4 +93,5 @@ returns-in-Needs c free local =
 
 pub returns-in-StandsUnless : goal.returns-in-StandsUnless
 returns-in-StandsUnless c free local =
-    rw c.in-StandsUnless.is (if_ok _ _ _ (λ new. stands_unless c.args.arg new c.in-StandsUnless.names.now free local) c.required_unless_present_any.ensures)
+    rw c.in-StandsUnless.is (if_ok _ _ _
+    (λ new. stands_unless c.args.arg new c.in-StandsUnless.names.now free local) c.required_unless_present_any.ensures)

@@ -1,4 +1,5 @@
-use Rattle.std.proofs.Common.{◌≡◌, ◌∙◌, ◌+◌, ◌<◌, ℕ, ap, List, [], ◌∷◌, drop, get_or, length, map, refl, sym, subst}
+use Rattle.std.proofs.Common.{◌≡◌, ◌∙◌, ◌+◌, ◌<◌, ℕ, ap, List, [], ◌∷◌}
+use Rattle.std.proofs.Common.{drop, get_or, length, map, refl, sym, subst}
 use Rattle.std.proofs.lemmas.List.{drop_all, drop_more}
 use Rattle.clap.specs.Words.{AddsArg, app_of, rule_of, with_rule}
 use Rattle.clap.specs.declared.builder.arg.Arg.{Arg}
@@ -8,7 +9,8 @@ use Rattle.nutcommand.specs.declared.words.Word.{Word}
 use Rattle.nutcommand.proofs.words.with_words.Goals as goal
 
 -- a command that takes the words is read by their rules
-taken : (rows : List Row) (old new : Command) → TakesWords rows old new → app_of new ≡ with_words (app_of old) rows
+taken : (rows : List Row) (old new : Command) → TakesWords rows old new → app_of new ≡
+    with_words (app_of old) rows
 taken [] old new takes = ap app_of (sym takes)
 taken ((rule, bond) ∷ rows) old new (arg, next, ((read, local), bonds), adds, more) =
     taken rows next new more ∙ ap (λ a. with_words a rows) (adds.shape local ∙ ap (with_rule (app_of old)) read)
@@ -26,7 +28,8 @@ next_word words i d made arg old new end below read is adds takes =
 pub loop-word-preserved : goal.loop-word-preserved
 loop-word-preserved c end takes =
     let read = c.argument.ensures.read in
-    c.loop-word.invariant end (next_word c.args.words.now c.loop-word.word-index _ c.argument.result c.in_ok-bound.field-0
+    c.loop-word.invariant end (next_word c.args.words.now c.loop-word.word-index _ c.argument.result
+    c.in_ok-bound.field-0
     c.loop-word.command c.in_ok-command.command end c.loop-word-test.true read.0
     (c.in_ok-bound.ensures c.argument.ensures.free read.1) c.in_ok-command.ensures takes)
 

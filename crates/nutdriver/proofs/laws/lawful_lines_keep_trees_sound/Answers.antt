@@ -12,6 +12,23 @@ returns-clause-kept c =
     let units_rising = c.changes_keep_keys_rising-2.ensures in
     let counts = c.changes_count_one_entry.ensures in
     let units_counts = c.changes_count_one_entry-2.ensures in
-    let laws : MapLaws VariableState = record { inserted = rising.inserted; removed = rising.removed; added = counts.added; replaced = counts.replaced; taken = counts.taken_out; absent = counts.absent } in
-    let units_laws : MapLaws ⊤ = record { inserted = units_rising.inserted; removed = units_rising.removed; added = units_counts.added; replaced = units_counts.replaced; taken = units_counts.taken_out; absent = units_counts.absent } in
+    let laws : MapLaws VariableState =
+    record {
+      inserted = rising.inserted;
+      removed = rising.removed;
+      added = counts.added;
+      replaced =
+          counts.replaced;
+      taken = counts.taken_out;
+      absent = counts.absent;
+    } in
+    let units_laws : MapLaws ⊤ = record {
+      inserted = units_rising.inserted;
+      removed = units_rising.removed;
+      added =
+          units_counts.added;
+      replaced = units_counts.replaced;
+      taken = units_counts.taken_out;
+      absent = units_counts.absent;
+    } in
     λ tree line sound lawful. step_sound laws units_laws tree sound line lawful

@@ -11,18 +11,27 @@ use Rattle.nutloop.proofs.turns.feed_driver.Goals as goal
 
 pub returns-in_default : goal.returns-in_default
 returns-in_default g c =
-    does_quietly (DriverBytes c.args.u c.args.piece.now) c.comes.result c.args.server.now c.comes.new.server (g.S.Sockets.told c.args.sockets.now) (g.R.Record.holds c.args.recorder.now) (g.R.Record.holds c.comes.new.recorder)
-    c.comes.ensures.step c.comes.ensures.noted c.comes.ensures.recorded (quiet_behind c.args.u c.args.piece.now c.comes.result c.in_default.not-Refused)
+    does_quietly (DriverBytes c.args.u c.args.piece.now) c.comes.result c.args.server.now
+    c.comes.new.server (g.S.Sockets.told c.args.sockets.now) (g.R.Record.holds c.args.recorder.now)
+    (g.R.Record.holds c.comes.new.recorder)
+    c.comes.ensures.step c.comes.ensures.noted c.comes.ensures.recorded
+    (quiet_behind c.args.u c.args.piece.now c.comes.result c.in_default.not-Refused)
 
 pub returns-then-loses_driver : goal.returns-then-loses_driver
 returns-then-loses_driver g c =
     let lost : loses_driver c.in-Refused.fault ≡ true = sym c.loses_driver.ensures ∙ c.if-loses_driver.true in
-    does_one (DriverBytes c.args.u c.args.piece.now) (Refused c.in-Refused.fault) c.args.server.now c.comes.new.server (g.S.Sockets.told c.args.sockets.now) (g.S.Sockets.told c.shut.new.self) (g.R.Record.holds c.args.recorder.now) (g.R.Record.holds c.comes.new.recorder)
+    does_one (DriverBytes c.args.u c.args.piece.now) (Refused c.in-Refused.fault) c.args.server.now
+    c.comes.new.server (g.S.Sockets.told c.args.sockets.now) (g.S.Sockets.told c.shut.new.self)
+    (g.R.Record.holds c.args.recorder.now) (g.R.Record.holds c.comes.new.recorder)
     c.in-Refused.ensures.step c.in-Refused.ensures.noted c.comes.ensures.recorded
-    (subst (λ b. Answers (g.S.Sockets.told c.args.sockets.now) (if b then Shut (Driver c.args.u) ∷ [] else []) (g.S.Sockets.told c.shut.new.self)) (sym lost) c.shut.ensures)
+    (subst (λ b. Answers (g.S.Sockets.told c.args.sockets.now)
+    (if b then Shut (Driver c.args.u) ∷ [] else []) (g.S.Sockets.told c.shut.new.self)) (sym lost) c.shut.ensures)
 
 pub returns-else-loses_driver : goal.returns-else-loses_driver
 returns-else-loses_driver g c =
     let stays : loses_driver c.in-Refused.fault ≡ false = sym c.loses_driver.ensures ∙ c.if-loses_driver.false in
-    does_quietly (DriverBytes c.args.u c.args.piece.now) (Refused c.in-Refused.fault) c.args.server.now c.comes.new.server (g.S.Sockets.told c.args.sockets.now) (g.R.Record.holds c.args.recorder.now) (g.R.Record.holds c.comes.new.recorder)
-    c.in-Refused.ensures.step c.in-Refused.ensures.noted c.comes.ensures.recorded (ap (λ b. if b then Shut (Driver c.args.u) ∷ [] else []) stays)
+    does_quietly (DriverBytes c.args.u c.args.piece.now) (Refused c.in-Refused.fault)
+    c.args.server.now c.comes.new.server (g.S.Sockets.told c.args.sockets.now)
+    (g.R.Record.holds c.args.recorder.now) (g.R.Record.holds c.comes.new.recorder)
+    c.in-Refused.ensures.step c.in-Refused.ensures.noted c.comes.ensures.recorded
+    (ap (λ b. if b then Shut (Driver c.args.u) ∷ [] else []) stays)

@@ -6,7 +6,8 @@ pub returns-clause-added : goal.returns-clause-added
 returns-clause-added g c = λ map key value none. length-insert_new g.K.Ord.cmp key value map none
 
 pub returns-clause-replaced : goal.returns-clause-replaced
-returns-clause-replaced g c = λ map key value before rising some. length-insert_old g.met.K.Ord.total key value map before rising.rising some
+returns-clause-replaced g c = λ map key value before rising some. length-insert_old
+    g.met.K.Ord.total key value map before rising.rising some
 
 pub returns-clause-taken_out : goal.returns-clause-taken_out
 returns-clause-taken_out g c = λ map key before some. length-remove_entry (is_at (g.K.Ord.cmp key)) map before some

@@ -13,4 +13,5 @@ returns-in_default c =
 pub returns : goal.returns
 returns c =
     let small : from_be_bytes w128 c.in-Ok.uuid < 2 ^ 128 = rw (c.as_u128.ensures) at c.as_u128.type_inv in
-    rw c.as_u128.ensures (sym (reads_parsed c.args.text.now c.in-Ok.uuid c.if-text-ne-ID_LENGTH.false (sym c.in-Ok.ensures.bytes) small))
+    rw c.as_u128.ensures (sym (reads_parsed c.args.text.now c.in-Ok.uuid
+    c.if-text-ne-ID_LENGTH.false (sym c.in-Ok.ensures.bytes) small))

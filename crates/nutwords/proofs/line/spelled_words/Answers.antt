@@ -7,7 +7,8 @@ use Rattle.nutwords.proofs.Sizes.{Reads-count, Reads-sum}
 use Rattle.nutwords.proofs.line.spelled_words.Goals as goal
 
 pub returns-in_err-check-clause-only : goal.returns-in_err-check-clause-only
-returns-in_err-check-clause-only c = λ words r. absurd (IsFault-no_words c.args.line.now c.in_err-check.field-0.0 c.in_err-check.ensures.0 words r)
+returns-in_err-check-clause-only c =
+    λ words r. absurd (IsFault-no_words c.args.line.now c.in_err-check.field-0.0 c.in_err-check.ensures.0 words r)
 
 pub invariant_of-result : goal.invariant_of-result
 invariant_of-result c =

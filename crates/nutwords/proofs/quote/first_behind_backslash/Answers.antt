@@ -5,7 +5,8 @@ use Rattle.nutwords.proofs.Backslashes.{with_backslashes-none, with_backslashes-
 use Rattle.nutwords.proofs.quote.first_behind_backslash.Goals as goal
 
 -- what the search says of the word's spelling
-found : (r : Option ℕ) (word : List ℕ) → IsFirstByte (is_byte2 34 92) word r → MatchOption r (with_backslashes word ≡ word) (λ at. IsFirstSpelled word at)
+found : (r : Option ℕ) (word : List ℕ) → IsFirstByte (is_byte2 34 92) word r →
+    MatchOption r (with_backslashes word ≡ word) (λ at. IsFirstSpelled word at)
 found None word h = with_backslashes-none word (λ j lt e. h j (omega arith) lt e)
 found (Some at) word h = record {
   within = h.0.high;

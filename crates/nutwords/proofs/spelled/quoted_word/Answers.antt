@@ -7,4 +7,9 @@ pub returns-clause-takes : goal.returns-clause-takes
 returns-clause-takes c =
     let line = c.args.inside.now in
     let end = c.closing_quote-end.result in
-    rw (take-all (length line - (end + 1)) (drop (end + 1) line) (omega (arith, length-drop (end + 1) line)), c.word_of.ensures, c.closing_quote-end.ensures.value) (TakesWord-quoted line c.requires.reads)
+    rw (
+      take-all (length line - (end + 1)) (drop (end + 1) line)
+          (omega (arith, length-drop (end + 1) line)),
+      c.word_of.ensures,
+      c.closing_quote-end.ensures.value,
+    ) (TakesWord-quoted line c.requires.reads)

@@ -1,4 +1,5 @@
-use Rattle.std.proofs.Common.{◌≡◌, ◌+◌, ◌-◌, [], ◌<◌, length, drop, arith, add-one, sym, ◌∙◌, length-drop}
+use Rattle.std.proofs.Common.{◌≡◌, ◌+◌, ◌-◌, [], ◌<◌, length, drop, arith}
+use Rattle.std.proofs.Common.{add-one, sym, ◌∙◌, length-drop}
 use Rattle.std.proofs.lemmas.Bool.{eqb-false}
 use Rattle.std.proofs.lemmas.List.{drop_all}
 use Rattle.nutwords.proofs.Lines.{take-all}
@@ -16,6 +17,11 @@ returns-in-Some c =
 pub returns-in-None : goal.returns-in-None
 returns-in-None c =
     let bytes = c.args.bytes.now in
-    let some : 0 < length bytes = omega (arith, eqb-false (length bytes) 0 (sym c.is_empty.ensures ∙ c.if-is_empty.false)) in
+    let some : 0 < length bytes = omega
+    (arith, eqb-false (length bytes) 0 (sym c.is_empty.ensures ∙ c.if-is_empty.false)) in
     let none : drop (length bytes) bytes ≡ [] = drop_all (length bytes) bytes (omega arith) in
-    rw (take-all (length bytes - length bytes) (drop (length bytes) bytes) (omega (arith, length-drop (length bytes) bytes)), none) (lines_of-one bytes some (λ j below e. c.in-None.ensures j (omega arith) below e))
+    rw (
+      take-all (length bytes - length bytes) (drop (length bytes) bytes)
+          (omega (arith, length-drop (length bytes) bytes)),
+      none,
+    ) (lines_of-one bytes some (λ j below e. c.in-None.ensures j (omega arith) below e))

@@ -15,6 +15,8 @@ returns g c =
     let s = c.args.self.now in
     let u = known_ups c.in_ok-ups.ups in
     let found : unknown_ups s c.args.ups.now ≡ Ok u = sym c.in_ok-ups.ensures in
-    let row : answer_to s (asker_seen c.args.asker) (commands.Fsd c.args.ups.now) ≡ Ok (one_line (codes "OK" ∷ codes "FSD-SET" ∷ []) (Fsd u.id)) = rw (← c.in_ok-user.ensures, found) refl in
+    let row : answer_to s (asker_seen c.args.asker) (commands.Fsd c.args.ups.now) ≡
+    Ok (one_line (codes "OK" ∷ codes "FSD-SET" ∷ []) (Fsd u.id)) = rw (← c.in_ok-user.ensures, found) refl in
     subst (λ (answer : Result Answer ErrWord). IsOneLine answer (codes "OK FSD-SET\n") (Fsd u.id)) (sym row)
-    (own (codes "OK FSD-SET") (codes "OK" ∷ codes "FSD-SET" ∷ []) (Fsd u.id) refl (own_line (codes "OK FSD-SET") refl refl))
+    (own (codes "OK FSD-SET") (codes "OK" ∷ codes "FSD-SET" ∷ []) (Fsd u.id) refl
+    (own_line (codes "OK FSD-SET") refl refl))

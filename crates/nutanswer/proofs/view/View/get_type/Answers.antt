@@ -13,7 +13,8 @@ returns g c =
     let s = c.args.self.now in
     let found = c.in_ok-ups.ensures ∙ ap (live_variable s c.args.ups.now) c.read-name.ensures in
     let k = known_variable (c.in_ok-ups.ups, c.in_ok-ups.name, c.in_ok-ups.variable) in
-    let row = with_variable s c.args.ups.now c.args.name.now (λ u v x. in_one_line (codes "TYPE" ∷ u.name ∷ v ∷ type_words x)) k found in
+    let row = with_variable s c.args.ups.now c.args.name.now
+    (λ u v x. in_one_line (codes "TYPE" ∷ u.name ∷ v ∷ type_words x)) k found in
     record {
       text = c.type_line_into.ensures.text ∙ ap text_of_answer (sym row);
       changes = ap change_of_answer (sym row);
@@ -28,5 +29,6 @@ returns-in_err-ups g c =
     let missing = c.in_err-ups.ensures ∙ ap (live_variable s c.args.ups.now) c.read-name.ensures in
     let p = err_from_is_err_and c.from_residual.result c.from_residual.ensures.1 in
     refused_line _ c.in_err-ups.field-0.0 c.from_residual.result _
-    (without_variable s c.args.ups.now c.args.name.now (λ u v x. in_one_line (codes "TYPE" ∷ u.name ∷ v ∷ type_words x)) c.in_err-ups.field-0.0 missing)
+    (without_variable s c.args.ups.now c.args.name.now
+    (λ u v x. in_one_line (codes "TYPE" ∷ u.name ∷ v ∷ type_words x)) c.in_err-ups.field-0.0 missing)
     (p.1 ∙ ap Err p.2)

@@ -16,7 +16,8 @@ returns-in_err-value g c =
     let found = c.in_ok-ups.ensures ∙ ap (live_variable s c.args.ups.now) c.read-name.ensures in
     let given = ap (settable c.in_ok-ups.variable.now) c.bytes.ensures.value in
     let p = err_from_is_err_and c.from_residual-in_err-value.result c.from_residual-in_err-value.ensures.1 in
-    set_refused s (asker_seen c.args.asker) c.args.ups.now c.args.name.now c.args.value.now (known_variable (c.in_ok-ups.ups, c.in_ok-ups.name, c.in_ok-ups.variable)) c.in_ok-user.ensures found
+    set_refused s (asker_seen c.args.asker) c.args.ups.now c.args.name.now c.args.value.now
+    (known_variable (c.in_ok-ups.ups, c.in_ok-ups.name, c.in_ok-ups.variable)) c.in_ok-user.ensures found
     c.in_err-value.field-0.0 (c.in_err-value.ensures ∙ given) c.from_residual-in_err-value.result (p.1 ∙ ap Err p.2)
 
 pub returns-in_err-id : goal.returns-in_err-id
@@ -25,36 +26,46 @@ returns-in_err-id g c =
     let found = c.in_ok-ups.ensures ∙ ap (live_variable s c.args.ups.now) c.read-name.ensures in
     let given = ap (settable c.in_ok-ups.variable.now) c.bytes.ensures.value in
     let p = err_from_is_err_and c.from_residual-in_err-id.result c.from_residual-in_err-id.ensures.1 in
-    set_without_id s (asker_seen c.args.asker) c.args.ups.now c.args.name.now c.args.value.now (known_variable (c.in_ok-ups.ups, c.in_ok-ups.name, c.in_ok-ups.variable)) c.in_ok-user.ensures found
-    c.in_ok-value.value.now (c.in_ok-value.ensures ∙ given) c.in_err-id.field-0.0 c.in_err-id.ensures c.from_residual-in_err-id.result (p.1 ∙ ap Err p.2)
+    set_without_id s (asker_seen c.args.asker) c.args.ups.now c.args.name.now c.args.value.now
+    (known_variable (c.in_ok-ups.ups, c.in_ok-ups.name, c.in_ok-ups.variable)) c.in_ok-user.ensures found
+    c.in_ok-value.value.now (c.in_ok-value.ensures ∙ given) c.in_err-id.field-0.0
+    c.in_err-id.ensures c.from_residual-in_err-id.result (p.1 ∙ ap Err p.2)
 
 pub returns-then-len-ups : goal.returns-then-len-ups
 returns-then-len-ups g c =
     let s = c.args.self.now in
     let found = c.in_ok-ups.ensures ∙ ap (live_variable s c.args.ups.now) c.read-name.ensures in
     let given = ap (settable c.in_ok-ups.variable.now) c.bytes.ensures.value in
-    set_full s (asker_seen c.args.asker) c.args.ups.now c.args.name.now c.args.value.now (known_variable (c.in_ok-ups.ups, c.in_ok-ups.name, c.in_ok-ups.variable)) c.in_ok-user.ensures found
-    c.in_ok-value.value.now (c.in_ok-value.ensures ∙ given) c.in_ok-id.id c.in_ok-id.ensures (omega (arith, c.if-len-ups.true, c.len.ensures.value, ap length c.order_line_into.ensures.text))
+    set_full s (asker_seen c.args.asker) c.args.ups.now c.args.name.now c.args.value.now
+    (known_variable (c.in_ok-ups.ups, c.in_ok-ups.name, c.in_ok-ups.variable)) c.in_ok-user.ensures found
+    c.in_ok-value.value.now (c.in_ok-value.ensures ∙ given) c.in_ok-id.id c.in_ok-id.ensures
+    (omega (arith, c.if-len-ups.true, c.len.ensures.value, ap length c.order_line_into.ensures.text))
 
 pub returns : goal.returns
 returns g c =
     let s = c.args.self.now in
     let found = c.in_ok-ups.ensures ∙ ap (live_variable s c.args.ups.now) c.read-name.ensures in
     let given = ap (settable c.in_ok-ups.variable.now) c.bytes.ensures.value in
-    let done = set_done s (asker_seen c.args.asker) c.args.ups.now c.args.name.now c.args.value.now (known_variable (c.in_ok-ups.ups, c.in_ok-ups.name, c.in_ok-ups.variable)) c.in_ok-user.ensures found
-    c.in_ok-value.value.now (c.in_ok-value.ensures ∙ given) c.in_ok-id.id c.in_ok-id.ensures (omega (arith, c.if-len-ups.false, c.len.ensures.value, ap length c.order_line_into.ensures.text)) in
+    let done = set_done s (asker_seen c.args.asker) c.args.ups.now c.args.name.now c.args.value.now
+    (known_variable (c.in_ok-ups.ups, c.in_ok-ups.name, c.in_ok-ups.variable)) c.in_ok-user.ensures found
+    c.in_ok-value.value.now (c.in_ok-value.ensures ∙ given) c.in_ok-id.id c.in_ok-id.ensures
+    (omega (arith, c.if-len-ups.false, c.len.ensures.value, ap length c.order_line_into.ensures.text)) in
     subst (λ (answer : Result Answer ErrWord). CarriesAnswer answer c.ordered.result)
-    (ap (λ (line : List ℕ). let a : Result Answer ErrWord = Ok (one_line (ok_words c.in_ok-id.id) (order c.in_ok-ups.ups.id line c.in_ok-id.id)) in a) c.order_line_into.ensures.text ∙ sym done) c.ordered.ensures
+    (ap (λ (line : List ℕ). let a : Result Answer ErrWord =
+    Ok (one_line (ok_words c.in_ok-id.id) (order c.in_ok-ups.ups.id line c.in_ok-id.id)) in a)
+    c.order_line_into.ensures.text ∙ sym done) c.ordered.ensures
 
 pub returns-in_err-ups : goal.returns-in_err-ups
 returns-in_err-ups g c =
     let s = c.args.self.now in
     let missing = c.in_err-ups.ensures ∙ ap (live_variable s c.args.ups.now) c.read-name.ensures in
     let p = err_from_is_err_and c.from_residual-in_err-ups.result c.from_residual-in_err-ups.ensures.1 in
-    set_without s (asker_seen c.args.asker) c.args.ups.now c.args.name.now c.args.value.now c.in_ok-user.ensures c.in_err-ups.field-0.0 missing
+    set_without s (asker_seen c.args.asker) c.args.ups.now c.args.name.now c.args.value.now
+    c.in_ok-user.ensures c.in_err-ups.field-0.0 missing
     c.from_residual-in_err-ups.result (p.1 ∙ ap Err p.2)
 
 pub order_line_into-requires-clause-value : goal.order_line_into-requires-clause-value
 order_line_into-requires-clause-value g c =
-    let is = settable_is c.in_ok-ups.variable.now c.args.value.now c.in_ok-value.value.now (c.in_ok-value.ensures ∙ ap (settable c.in_ok-ups.variable.now) c.bytes.ensures.value) in
+    let is = settable_is c.in_ok-ups.variable.now c.args.value.now c.in_ok-value.value.now
+    (c.in_ok-value.ensures ∙ ap (settable c.in_ok-ups.variable.now) c.bytes.ensures.value) in
     subst (λ o. IfSome o (λ text. length text ≤ VALUE_LIMIT)) is c.bytes.ensures.short

@@ -24,7 +24,8 @@ invariant_of-self c =
     let left : c.remove.new.self.items ≡ without c.args.c v.sessions = c.remove.ensures.by_index.2 ∙ sym
     (left_out 1 v.next_id c.args.c c.in_ok-place.place v.sessions c.self.invariant.sound.ids here.at) in
     record {
-      sound = subst (λ (xs : List SessionState). let z : ServerState = record v { sessions = xs } in IsSound z) (sym left) (sound_closed v c.args.c c.self.invariant.sound);
+      sound = subst (λ (xs : List SessionState). let z : ServerState =
+          record v { sessions = xs } in IsSound z) (sym left) (sound_closed v c.args.c c.self.invariant.sound);
       room = omega (arith, c.remove.ensures.capacity, c.self.invariant.room);
     }
 

@@ -15,7 +15,10 @@ index_mut-ups-requires c = let within = stood_within _ _ c.args.u true c.self.vi
     c.in_ok-connected.ensures.connected in search rules
 
 pub report-requires : goal.report-requires
-report-requires c = omega (arith, ap (λ (r : RunningServer). length r.notes) (c.self.view_is ∙ c.forget.ensures.begun))
+report-requires c = omega (
+  arith,
+  ap (λ (r : RunningServer). length r.notes) (c.self.view_is ∙ c.forget.ensures.begun),
+)
 
 pub returns : goal.returns
 returns c =

@@ -16,7 +16,8 @@ index_mut-ups-requires c = let within = stood_within _ _ c.args.u true c.self.vi
 pub returns : goal.returns
 returns c =
     let at = stood c.self.view_is c.in_ok-connected.ensures.connected c.index_mut-ups.ensures.value in
-    plain_event (DriverTook c.args.u c.args.n) tt (c.self.view_is ∙ c.forget.ensures.begun) c.self.invariant.sound refl
+    plain_event (DriverTook c.args.u c.args.n) tt (c.self.view_is ∙ c.forget.ensures.begun)
+    c.self.invariant.sound refl
     (took_does c.take.new.self c.take.result at c.take.ensures)
     (none_noted (c.self.view_is ∙ c.forget.ensures.begun))
 

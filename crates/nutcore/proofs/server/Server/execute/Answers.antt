@@ -11,7 +11,9 @@ use Rattle.nutlisting.specs.Counted.{KeepsCount}
 use Rattle.nutcore.specs.Promises.{RepliesOrLacks, OrderFits, change_in, text_with, note_in_reply, with_note}
 use Rattle.nutcore.specs.contracts.server.Server.{the_view}
 use Rattle.nutcore.proofs.Runs.{state_is}
-use Rattle.nutcore.proofs.Serving.{StandsAt, on_err, stands, heard, found_in, next_end_is, next_of_found, change_told, short_told, changes_made, line_is, wants_is}
+use Rattle.nutcore.proofs.Serving.{StandsAt, on_err, stands, heard, found_in, next_end_is}
+use Rattle.nutcore.proofs.Serving.{next_of_found, change_told, short_told, changes_made, line_is}
+use Rattle.nutcore.proofs.Serving.{wants_is}
 use Rattle.nutcore.proofs.KeptSound.{changes_kept, session_kept, answered_kept}
 use Rattle.nutcore.proofs.OrderFits.{order_fits}
 use Rattle.nutcore.proofs.Costs.{cost_kept}
@@ -29,16 +31,22 @@ pub returns-in_err-reply-clause-memory : goal.returns-in_err-reply-clause-memory
 returns-in_err-reply-clause-memory c =
     let s : ServerState = c.args.self.now.state in
     let line : List ℕ = c.next_line.result.now in
-    let at = heard (the_view c.self.inside).state s c.args.c c.args.place c.index-session.result.now line _ c.read-read.result _ (state_is c.self.view_is) c.requires.at c.index-session.ensures c.next_line.ensures.line c.asker.ensures c.read-read.ensures c.reply_to.ensures in
-    on_err c.from_residual.result _ (wants_is s c.args.c line at.next (subst (RepliesOrLacks s c.args.c line) c.in_err-reply.was at.told))
+    let at = heard (the_view c.self.inside).state s c.args.c c.args.place c.index-session.result.now
+    line _ c.read-read.result _ (state_is c.self.view_is) c.requires.at c.index-session.ensures
+    c.next_line.ensures.line c.asker.ensures c.read-read.ensures c.reply_to.ensures in
+    on_err c.from_residual.result _ (wants_is s c.args.c line at.next
+    (subst (RepliesOrLacks s c.args.c line) c.in_err-reply.was at.told))
 
 pub carry_out-requires-clause-fits : goal.carry_out-requires-clause-fits
 carry_out-requires-clause-fits c =
     let s : ServerState = c.args.self.now.state in
     let line : List ℕ = c.next_line.result.now in
-    let at = heard (the_view c.self.inside).state s c.args.c c.args.place c.index-session.result.now line _ c.read-read.result (Ok c.in_ok-reply.reply) (state_is c.self.view_is) c.requires.at c.index-session.ensures c.next_line.ensures.line c.asker.ensures c.read-read.ensures c.in_ok-reply.ensures in
+    let at = heard (the_view c.self.inside).state s c.args.c c.args.place c.index-session.result.now
+    line _ c.read-read.result (Ok c.in_ok-reply.reply) (state_is c.self.view_is) c.requires.at
+    c.index-session.ensures c.next_line.ensures.line c.asker.ensures c.read-read.ensures c.in_ok-reply.ensures in
     let change : Change = change_in c.in_ok-reply.reply in
-    subst (λ (z : ServerState). OrderFits change z.upses) (sym (state_is c.self.view_is)) (order_fits s c.args.c (read_command line) change (change_told s c.args.c line c.in_ok-reply.reply at.told))
+    subst (λ (z : ServerState). OrderFits change z.upses) (sym (state_is c.self.view_is))
+    (order_fits s c.args.c (read_command line) change (change_told s c.args.c line c.in_ok-reply.reply at.told))
 
 pub answer-requires-clause-going : goal.answer-requires-clause-going
 answer-requires-clause-going c =
@@ -51,7 +59,9 @@ pub answer-requires-clause-short : goal.answer-requires-clause-short
 answer-requires-clause-short c =
     let s : ServerState = c.args.self.now.state in
     let line : List ℕ = c.next_line.result.now in
-    let at = heard (the_view c.self.inside).state s c.args.c c.args.place c.index-session.result.now line _ c.read-read.result (Ok c.in_ok-reply.reply) (state_is c.self.view_is) c.requires.at c.index-session.ensures c.next_line.ensures.line c.asker.ensures c.read-read.ensures c.in_ok-reply.ensures in
+    let at = heard (the_view c.self.inside).state s c.args.c c.args.place c.index-session.result.now
+    line _ c.read-read.result (Ok c.in_ok-reply.reply) (state_is c.self.view_is) c.requires.at
+    c.index-session.ensures c.next_line.ensures.line c.asker.ensures c.read-read.ensures c.in_ok-reply.ensures in
     short_told s c.args.c line c.in_ok-reply.reply at.told
 
 pub invariant_of-self-2 : goal.invariant_of-self-2
@@ -61,17 +71,24 @@ invariant_of-self-2 c =
     let x : SessionState = c.index_mut-session.result.now in
     let line : List ℕ = c.next_line.result.now in
     let change : Change = change_in c.in_ok-reply.reply in
-    let at = heard v s c.args.c c.args.place c.index-session.result.now line _ c.read-read.result (Ok c.in_ok-reply.reply) (state_is c.self.view_is) c.requires.at c.index-session.ensures c.next_line.ensures.line c.asker.ensures c.read-read.ensures c.in_ok-reply.ensures in
-    let fits : OrderFits change v.upses = subst (λ (z : ServerState). OrderFits change z.upses) (sym (state_is c.self.view_is)) (order_fits s c.args.c (read_command line) change (change_told s c.args.c line c.in_ok-reply.reply at.told)) in
+    let at = heard v s c.args.c c.args.place c.index-session.result.now line _ c.read-read.result
+    (Ok c.in_ok-reply.reply) (state_is c.self.view_is) c.requires.at c.index-session.ensures
+    c.next_line.ensures.line c.asker.ensures c.read-read.ensures c.in_ok-reply.ensures in
+    let fits : OrderFits change v.upses =
+    subst (λ (z : ServerState). OrderFits change z.upses) (sym (state_is c.self.view_is))
+    (order_fits s c.args.c (read_command line) change (change_told s c.args.c line c.in_ok-reply.reply at.told)) in
     let t : ServerState = record v { upses = c.carry_out.new.upses.items; tracking = c.carry_out.new.tracking } in
-    let made = changes_made v s change c.carry_out.new.upses.items c.carry_out.new.tracking (state_is c.self.view_is) c.carry_out.ensures.upses c.carry_out.ensures.tracking in
+    let made = changes_made v s change c.carry_out.new.upses.items c.carry_out.new.tracking
+    (state_is c.self.view_is) c.carry_out.ensures.upses c.carry_out.ensures.tracking in
     let here : StandsAt t c.args.c c.args.place x = stands made c.requires.at c.index_mut-session.ensures.value in
     let going : option_map length (next_line x) ≡ Some c.args.end = next_end_is s c.args.c x
     (found_in (state_is c.self.view_is) c.requires.at c.index_mut-session.ensures.value) ∙ c.requires.next in
     record {
       sound = session_kept t c.args.c c.args.place x c.answer.new.self here.at here.found c.answer.ensures.id
-          (answered_kept change (text_with c.carry_out.new.clients c.in_ok-reply.reply) x c.answer.new.self c.args.end going c.answer.ensures.answered)
-          (changes_kept v change c.carry_out.new.upses.items c.carry_out.new.tracking c.carry_out.ensures.upses c.carry_out.ensures.tracking fits c.self.invariant.sound);
+          (answered_kept change (text_with c.carry_out.new.clients c.in_ok-reply.reply) x
+          c.answer.new.self c.args.end going c.answer.ensures.answered)
+          (changes_kept v change c.carry_out.new.upses.items c.carry_out.new.tracking
+          c.carry_out.ensures.upses c.carry_out.ensures.tracking fits c.self.invariant.sound);
       room = c.self.invariant.room;
     }
 
@@ -83,9 +100,12 @@ returns c =
     let line : List ℕ = c.next_line.result.now in
     let reply : Reply = c.in_ok-reply.reply in
     let change : Change = change_in reply in
-    let at = heard v s c.args.c c.args.place c.index-session.result.now line _ c.read-read.result (Ok reply) (state_is c.self.view_is) c.requires.at c.index-session.ensures c.next_line.ensures.line c.asker.ensures c.read-read.ensures c.in_ok-reply.ensures in
+    let at = heard v s c.args.c c.args.place c.index-session.result.now line _ c.read-read.result
+    (Ok reply) (state_is c.self.view_is) c.requires.at c.index-session.ensures
+    c.next_line.ensures.line c.asker.ensures c.read-read.ensures c.in_ok-reply.ensures in
     let t : ServerState = record v { upses = c.carry_out.new.upses.items; tracking = c.carry_out.new.tracking } in
-    let made = changes_made v s change c.carry_out.new.upses.items c.carry_out.new.tracking (state_is c.self.view_is) c.carry_out.ensures.upses c.carry_out.ensures.tracking in
+    let made = changes_made v s change c.carry_out.new.upses.items c.carry_out.new.tracking
+    (state_is c.self.view_is) c.carry_out.ensures.upses c.carry_out.ensures.tracking in
     let here : StandsAt t c.args.c c.args.place x = stands made c.requires.at c.index_mut-session.ensures.value in
     let next : next_line x ≡ Some line = next_of_found s c.args.c x line
     (found_in (state_is c.self.view_is) c.requires.at c.index_mut-session.ensures.value) at.next in
@@ -96,10 +116,15 @@ returns c =
           at.next at.told c.carry_out.ensures.lists made here (c.answer.ensures.answered line next);
       err = tt;
       memory = tt;
-      noted = noted_reply s c.args.c line reply c.read-read.result c.index-session.result.now c.args.self.now.notes c.note.new.notes at.next
+      noted = noted_reply s c.args.c line reply c.read-read.result c.index-session.result.now
+          c.args.self.now.notes c.note.new.notes at.next
           (found_in (state_is c.self.view_is) c.requires.at c.index-session.ensures) at.told (sym c.read-read.ensures)
-          (c.note.ensures ∙ ap (with_note (note_in_reply c.index-session.result.now c.read-read.result reply)) (ap (λ (r : RunningServer). r.notes) c.self.view_is));
+          (c.note.ensures ∙ ap (with_note
+          (note_in_reply c.index-session.result.now c.read-read.result reply))
+          (ap (λ (r : RunningServer). r.notes) c.self.view_is));
       unnoted = tt;
-      keeps = subst (λ (z : RunningServer). KeepsCount (owed c.args.c z.state) z.cost.rendered (owed c.args.c after) renders) c.self.view_is
-          (cost_kept t c.args.c c.args.place x c.answer.new.self _ _ here.at here.found c.answer.ensures.id c.answer.ensures.keeps);
+      keeps = subst (λ (z : RunningServer). KeepsCount (owed c.args.c z.state) z.cost.rendered
+          (owed c.args.c after) renders) c.self.view_is
+          (cost_kept t c.args.c c.args.place x c.answer.new.self _ _ here.at here.found
+          c.answer.ensures.id c.answer.ensures.keeps);
     }

@@ -27,7 +27,8 @@ pub invariant_of-self : goal.invariant_of-self
 invariant_of-self c =
     let here = stands (state_is c.self.view_is) c.in_ok-place.ensures.place c.index_mut-session.ensures.value in
     record {
-      sound = session_kept _ _ _ _ _ here.at here.found c.join-count.ensures.id (joined_kept _ _ _ c.join-count.ensures.joins) c.self.invariant.sound;
+      sound = session_kept _ _ _ _ _ here.at here.found c.join-count.ensures.id
+          (joined_kept _ _ _ c.join-count.ensures.joins) c.self.invariant.sound;
       room = c.self.invariant.room;
     }
 
@@ -42,15 +43,20 @@ serve-requires c =
     record {
       unnoted = none_noted begins;
       at = at_set _ _ _ _ here.at (c.join-count.ensures.id ∙ find_id _ _ _ here.found);
-      short = of_set (λ o. length (held_of o) ≤ HELD_LIMIT) (the_view c.self.inside).state _ _ _ _ here.at here.found c.join-count.ensures.id c.join-count.ensures.short;
-      counted = of_set (λ o. IsCounted c.offered-kept.result (owed_of o) c.self.inside.scratch.renders) (the_view c.self.inside).state _ _ _ _ here.at here.found c.join-count.ensures.id
-          (subst (λ (y : SessionState). IsCounted c.offered-kept.result y.owed c.self.inside.scratch.renders) (sym c.join-count.ensures.joins) before);
+      short = of_set (λ o. length (held_of o) ≤ HELD_LIMIT) (the_view c.self.inside).state _ _ _
+          _ here.at here.found c.join-count.ensures.id c.join-count.ensures.short;
+      counted = of_set (λ o. IsCounted c.offered-kept.result (owed_of o)
+          c.self.inside.scratch.renders) (the_view c.self.inside).state _ _ _ _ here.at here.found
+          c.join-count.ensures.id
+          (subst (λ (y : SessionState). IsCounted c.offered-kept.result y.owed
+          c.self.inside.scratch.renders) (sym c.join-count.ensures.joins) before);
     }
 
 pub returns : goal.returns
 returns c =
     let here = stands (state_is c.self.view_is) c.in_ok-place.ensures.place c.index_mut-session.ensures.value in
-    feed_event (Ok tt) (c.self.view_is ∙ c.forget.ensures.begun) c.self.invariant.sound here c.join-count.ensures.joins
+    feed_event (Ok tt) (c.self.view_is ∙ c.forget.ensures.begun) c.self.invariant.sound here
+    c.join-count.ensures.joins
     c.join-count.ensures.count c.offered-kept.ensures
     (c.in_ok-serve.ensures.gives, c.in_ok-serve.ensures.notes) c.in_ok-serve.ensures.within c.in_ok-serve.ensures.cost
 

@@ -9,7 +9,8 @@ use Rattle.nutcore.proofs.server.Server.place_of.Goals as goal
 pub returns : goal.returns
 returns c =
     let xs : List SessionState = c.args.self.now.state.sessions in
-    let same : c.deref.result.now ≡ xs = c.deref.ensures.value ∙ ap (λ (s : ServerState). s.sessions) (state_is c.self.view_is) in
+    let same : c.deref.result.now ≡ xs = c.deref.ensures.value ∙
+    ap (λ (s : ServerState). s.sessions) (state_is c.self.view_is) in
     let facts = c.binary_search_by_key.ensures in
     let by_id = facts.position (λ (x : SessionState). x.id) (answers_always _ _ _ (λ f a r g called. search rules)) in
     record {

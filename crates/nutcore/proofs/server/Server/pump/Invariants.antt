@@ -7,7 +7,8 @@ use Rattle.nutcore.specs.declared.note.TheConstants.{NOTE_LIMIT}
 use Rattle.nutcore.specs.Notes.{notes_of_lines}
 use Rattle.nutcore.proofs.server.Server.pump.Given as goal
 
--- so many lines are done, what they placed is counted, what is said of them is noted, and the session still is at its place
+-- so many lines are done, what they placed is counted, what is said of them is noted, and the
+-- session still is at its place
 abbrev pub invariant-loop-end : goal.invariant-loop-end
 invariant-loop-end l = record {
   at : IsAt l.c l.place l.self.state.sessions;

@@ -3,7 +3,8 @@ use Rattle.nutcore.specs.Run.{Run}
 use Rattle.nutcore.specs.Cost.{last_cost}
 use Rattle.nutcore.proofs.server.Server.run.Given as goal
 
--- the events so far are a run, whose last one is what the cost is of, and there is room for the outcomes that are left
+-- the events so far are a run, whose last one is what the cost is of, and there is room for the
+-- outcomes that are left
 abbrev pub invariant-loop-event : goal.invariant-loop-event
 invariant-loop-event l = record {
   run : Run l.fn.self.state (take l.event-index l.events) l.outcomes.items l.self.state;

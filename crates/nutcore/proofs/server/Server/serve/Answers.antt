@@ -24,5 +24,7 @@ returns-clause-cost c =
     let x : SessionState = c.index-session.result.now in
     let here = stands (state_is c.self.view_is) c.pump-pumped.ensures.at c.index-session.ensures in
     placed_behind (offered (session c.args.c v)) c.args.kept c.self.inside.scratch.renders c.offered.result
-    (ap (λ (r : RunningServer). r.cost.rendered) c.self.view_is ∙ (c.pump-pumped.ensures.keeps c.args.kept c.requires.counted).counted ∙ ap (λ (z : ServerState). lines (drop c.args.kept (offered (session c.args.c z)))) (sym (state_is c.self.view_is)))
+    (ap (λ (r : RunningServer). r.cost.rendered) c.self.view_is ∙
+    (c.pump-pumped.ensures.keeps c.args.kept c.requires.counted).counted ∙
+    ap (λ (z : ServerState). lines (drop c.args.kept (offered (session c.args.c z)))) (sym (state_is c.self.view_is)))
     (c.offered.ensures ∙ sym (ap (λ (o : Option SessionState). length (offered o)) here.found))

@@ -23,6 +23,9 @@ pub invariant_of-self : goal.invariant_of-self
 invariant_of-self c =
     let v : ServerState = (the_view c.self.inside).state in
     record {
-      sound = subst IsSound (sym (ticked_is v c.args.seconds c.max-moment.result _ c.ping_upses.new.upses.items c.max-moment.ensures refl c.ping_upses.ensures.pinged)) (sound_ticked v c.args.seconds c.self.invariant.sound);
+      sound =
+          subst IsSound (sym (ticked_is v c.args.seconds c.max-moment.result _
+          c.ping_upses.new.upses.items c.max-moment.ensures refl c.ping_upses.ensures.pinged))
+          (sound_ticked v c.args.seconds c.self.invariant.sound);
       room = c.self.invariant.room;
     }

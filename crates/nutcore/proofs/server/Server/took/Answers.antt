@@ -46,7 +46,8 @@ pub invariant_of-self : goal.invariant_of-self
 invariant_of-self c =
     let here = stands (state_is c.self.view_is) c.in_ok-place.ensures.place c.index_mut-session.ensures.value in
     record {
-      sound = session_kept _ _ _ _ _ here.at here.found c.take.ensures.id (taken_kept _ _ _ c.take.ensures.takes) c.self.invariant.sound;
+      sound = session_kept _ _ _ _ _ here.at here.found c.take.ensures.id
+          (taken_kept _ _ _ c.take.ensures.takes) c.self.invariant.sound;
       room = c.self.invariant.room;
     }
 
@@ -60,9 +61,12 @@ serve-requires c =
     record {
       unnoted = none_noted (c.self.view_is ∙ c.forget.ensures.begun);
       at = at_set _ _ _ _ here.at (c.take.ensures.id ∙ find_id _ _ _ here.found);
-      short = of_set (λ o. length (held_of o) ≤ HELD_LIMIT) (the_view c.self.inside).state _ _ _ _ here.at here.found c.take.ensures.id c.take.ensures.short;
-      counted = of_set (λ o. IsCounted (c.offered-offered.result - c.args.n) (owed_of o) c.take.new.scratch.renders) (the_view c.self.inside).state _ _ _ _ here.at here.found c.take.ensures.id
-          (subst (λ (k : ℕ). IsCounted (k - c.args.n) c.take.new.self.owed c.take.new.scratch.renders) (sym all) c.take.ensures.counted);
+      short = of_set (λ o. length (held_of o) ≤ HELD_LIMIT) (the_view c.self.inside).state _ _ _
+          _ here.at here.found c.take.ensures.id c.take.ensures.short;
+      counted = of_set (λ o. IsCounted (c.offered-offered.result - c.args.n) (owed_of o)
+          c.take.new.scratch.renders) (the_view c.self.inside).state _ _ _ _ here.at here.found c.take.ensures.id
+          (subst (λ (k : ℕ). IsCounted (k - c.args.n) c.take.new.self.owed
+          c.take.new.scratch.renders) (sym all) c.take.ensures.counted);
     }
 
 pub returns : goal.returns
@@ -70,6 +74,7 @@ returns c =
     let here = stands (state_is c.self.view_is) c.in_ok-place.ensures.place c.index_mut-session.ensures.value in
     let same = same_found (state_is c.self.view_is) c.in_ok-place.ensures.place c.index.ensures
     c.index_mut-session.ensures.value in
-    take_event c.serve.result (c.self.view_is ∙ c.forget.ensures.begun) c.self.invariant.sound here c.take.ensures.takes
+    take_event c.serve.result (c.self.view_is ∙ c.forget.ensures.begun) c.self.invariant.sound
+    here c.take.ensures.takes
     (c.offered-offered.ensures ∙ ap (λ (x : SessionState). length (offered (Some x))) same) c.if-n-offered.false
     (c.serve.ensures.gives, c.serve.ensures.notes) c.serve.ensures.within c.serve.ensures.cost

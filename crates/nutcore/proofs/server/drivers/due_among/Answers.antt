@@ -1,4 +1,5 @@
-use Rattle.std.proofs.Common.{◌≡◌, ◌+◌, ◌<◌, ◌≤◌, ◌∙◌, ℕ, suc, List, Some, sym, ap, arith, length, take, slice_get}
+use Rattle.std.proofs.Common.{◌≡◌, ◌+◌, ◌<◌, ◌≤◌, ◌∙◌, ℕ, suc, List}
+use Rattle.std.proofs.Common.{Some, sym, ap, arith, length, take, slice_get}
 use Rattle.std.specs.Prelude.{min, ◌-◌, ◌^◌}
 use Rattle.std.proofs.lemmas.List.{take_all}
 use Rattle.nutcore.specs.Ups.{UpsState}
@@ -20,7 +21,8 @@ loop-place-preserved c =
     let within : p < length xs = omega (arith, c.loop-place-test.true, c.len-place-end.ensures) in
     let there : slice_get xs p ≡ Some x = there_is xs p x within c.index-ups.ensures in
     let next : suc p ≡ p + 1 = omega arith in
-    let most : c.loop-place.due ≤ 2 ^ 64 - 1 = omega (arith, c.loop-place.invariant, at_most c.args.max_age c.args.moment (take p xs)) in
+    let most : c.loop-place.due ≤ 2 ^ 64 - 1 =
+    omega (arith, c.loop-place.invariant, at_most c.args.max_age c.args.moment (take p xs)) in
     c.min-due.ensures
     ∙ ap (λ n. min c.loop-place.due n) c.due.ensures
     ∙ least_so_far c.loop-place.due (due_of c.args.max_age c.args.moment x) most
@@ -33,4 +35,5 @@ returns c =
     let p : ℕ = c.loop-place.place in
     let xs : List UpsState = c.args.upses.now.items in
     let all : length xs ≤ p = omega (arith, c.loop-place-test.false, c.len-place-end.ensures) in
-    c.loop-place.invariant ∙ ap (λ (ys : List UpsState). due_among c.args.max_age c.args.moment ys) (take_all p xs all)
+    c.loop-place.invariant ∙ ap (λ (ys : List UpsState). due_among c.args.max_age c.args.moment
+    ys) (take_all p xs all)

@@ -1,4 +1,6 @@
-use Rattle.std.proofs.Common.{◌≡◌, ◌+◌, ◌<◌, ◌≤◌, ◌++◌, ◌∙◌, ℕ, suc, List, ap, arith, length, map, take, drop, set, get_or, append-nil, length-set}
+use Rattle.std.proofs.Common.{◌≡◌, ◌+◌, ◌<◌, ◌≤◌, ◌++◌, ◌∙◌, ℕ, suc}
+use Rattle.std.proofs.Common.{List, ap, arith, length, map, take, drop, set, get_or, append-nil}
+use Rattle.std.proofs.Common.{length-set}
 use Rattle.std.proofs.lemmas.List.{take_all, drop_all}
 use Rattle.nutcore.specs.Ups.{UpsState, after_tick}
 use Rattle.nutcore.proofs.DriverSteps.{changed_so_far}
@@ -12,7 +14,8 @@ loop-place-preserved c =
     let so_far : List UpsState = map f (take p xs) ++ drop p xs in
     let x : UpsState = c.index_mut-ups.result.now in
     let within : p < length xs = omega (arith, c.loop-place-test.true, c.len-place-end.ensures) in
-    let at : x ≡ get_or so_far p x = c.index_mut-ups.ensures.value ∙ ap (λ (ys : List UpsState). get_or ys p x) c.loop-place.invariant.done in
+    let at : x ≡ get_or so_far p x = c.index_mut-ups.ensures.value ∙
+    ap (λ (ys : List UpsState). get_or ys p x) c.loop-place.invariant.done in
     let next : suc p ≡ p + 1 = omega arith in
     record {
       done = ap (λ (ys : List UpsState). set ys p c.tick.new.self) c.loop-place.invariant.done

@@ -1,4 +1,6 @@
-use Rattle.std.proofs.Common.{◌≡◌, ◌+◌, ◌<◌, ◌++◌, ◌∙◌, ℕ, suc, [], List, Option, Some, sym, ap, ap₂, arith, length, take, slice_get, zero-add}
+use Rattle.std.proofs.Common.{◌≡◌, ◌+◌, ◌<◌, ◌++◌, ◌∙◌, ℕ, suc, [], List}
+use Rattle.std.proofs.Common.{Option, Some, sym, ap, ap₂, arith, length, take, slice_get}
+use Rattle.std.proofs.Common.{zero-add}
 use Rattle.std.specs.List.{cons_option}
 use Rattle.nutcore.specs.Ups.{UpsState}
 use Rattle.nutcore.specs.declared.note.Note.{Note}
@@ -20,6 +22,8 @@ loop-place-preserved c =
     let next : suc p ≡ p + 1 = omega arith in
     c.note_data.ensures
     ∙ one_noted (so_far p) _ c.loop-place.notes c.loop-place.invariant
-    ∙ ap (λ (o : Option Note). take NOTE_LIMIT (so_far p ++ cons_option o [])) (ap₂ (data_note (id_at p)) c.data_state.ensures c.data_state-in-loop-place.ensures)
-    ∙ ap (λ (k : ℕ). take NOTE_LIMIT (so_far p ++ ticked c.args.max_age c.args.was c.args.is k x)) (sym (zero-add p))
+    ∙ ap (λ (o : Option Note). take NOTE_LIMIT (so_far p ++ cons_option o []))
+    (ap₂ (data_note (id_at p)) c.data_state.ensures c.data_state-in-loop-place.ensures)
+    ∙ ap (λ (k : ℕ). take NOTE_LIMIT
+    (so_far p ++ ticked c.args.max_age c.args.was c.args.is k x)) (sym (zero-add p))
     ∙ ap (take NOTE_LIMIT) (sym (ticked_so_far c.args.max_age c.args.was c.args.is 0 p xs x there) ∙ ap so_far next)

@@ -17,10 +17,17 @@ returns-clause-done c =
       | then-settle w ↦ rw (w.self-is, w.if-settle.true) w.refuse.ensures.counted
       | else-settle w ↦ rw (w.self-is, w.if-settle.false) refl
     ] in
-    let two : c.if-settle.notes ≡ with_note (cond b (Some (LineRefused c.args.u (fault_of o))) None) c.apply.new.notes = elim c.if-settle.branch [
+    let two : c.if-settle.notes ≡ with_note
+    (cond b (Some (LineRefused c.args.u (fault_of o))) None) c.apply.new.notes = elim c.if-settle.branch [
       | then-settle w ↦ rw (w.notes-is, w.if-settle.true) w.refuse.ensures.noted
       | else-settle w ↦ rw (w.notes-is, w.if-settle.false) refl
     ] in
-    let three = c.note_data.ensures ∙ ap (λ (n : Option Note). with_note n c.if-settle.notes) (ap₂ (data_note c.args.u) c.data_state-was.ensures c.data_state-is.ensures) in
-    does_line c.args.now.max_age c.args.now.seconds c.args.u (front_or c.args.count c.args.piece.now c.args.self.now.unfinished) c.args.self.now c.args.tracking.now c.args.notes.now o z b c.if-settle.self c.settle.new.tracking c.apply.new.notes c.if-settle.notes c.note_data.new.notes
-    c.in_ok-outcome.ensures.done c.settle.ensures.answer c.settle.ensures.after left c.requires.room c.in_ok-outcome.ensures.noted two three
+    let three = c.note_data.ensures ∙
+    ap (λ (n : Option Note). with_note n c.if-settle.notes)
+    (ap₂ (data_note c.args.u) c.data_state-was.ensures c.data_state-is.ensures) in
+    does_line c.args.now.max_age c.args.now.seconds c.args.u
+    (front_or c.args.count c.args.piece.now c.args.self.now.unfinished) c.args.self.now
+    c.args.tracking.now c.args.notes.now o z b c.if-settle.self c.settle.new.tracking
+    c.apply.new.notes c.if-settle.notes c.note_data.new.notes
+    c.in_ok-outcome.ensures.done c.settle.ensures.answer c.settle.ensures.after left c.requires.room
+    c.in_ok-outcome.ensures.noted two three

@@ -9,5 +9,6 @@ invariant-loop-note g l = record {
   moment : l.self.moment ≡ Some l.server.state.moment;
   goes_on : l.fn.self.moment ≡ Some l.server.state.moment → LeadsTo l.fn.self.tallies l.self.tallies;
   begins : l.fn.self.moment ≢ Some l.server.state.moment
-      → LeadsTo (after_second_of (begins_minute l.fn.self.moment l.server.state.moment) l.fn.self.tallies) l.self.tallies;
+      → LeadsTo (after_second_of (begins_minute l.fn.self.moment l.server.state.moment)
+      l.fn.self.tallies) l.self.tallies;
 }

@@ -12,7 +12,8 @@ abbrev pub invariant-loop-content : goal.invariant-loop-content
 invariant-loop-content l = record {
   at : IsPosition l.content (l.stage, option_copied l.last) l.offset;
   ahead : length l.queue < QUEUE_LIMIT → IsAhead l.content (l.stage, option_copied l.last) l.ahead;
-  alike : PlacesAlike l.fn.queue (rest l.fn.self) l.fn.renders l.queue (rest_at l.content (l.stage, option_copied l.last) l.offset) l.renders;
+  alike : PlacesAlike l.fn.queue (rest l.fn.self) l.fn.renders l.queue
+      (rest_at l.content (l.stage, option_copied l.last) l.offset) l.renders;
 }
 
 -- how much rests

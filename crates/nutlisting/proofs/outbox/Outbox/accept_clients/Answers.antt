@@ -9,4 +9,5 @@ returns-clause-owed c =
     let few = subst (λ (o : Owes). length (owed o) ≤ OWED_LIMIT) (sym c.self.view_is) c.requires.ready in
     let queue = rw c.replace.ensures.after at c.drain.ensures.queue in
     let rest = rw c.replace.ensures.after at c.drain.ensures.rest in
-    rw (← c.self.view_is) (joined_owed c.self.inside.queue c.self.inside.cursor c.drain.new.queue c.drain.new.cursor c.clients_cursor.result _ c.self.invariant.0 few queue rest c.clients_cursor.ensures.whole)
+    rw (← c.self.view_is) (joined_owed c.self.inside.queue c.self.inside.cursor c.drain.new.queue
+    c.drain.new.cursor c.clients_cursor.result _ c.self.invariant.0 few queue rest c.clients_cursor.ensures.whole)

@@ -8,7 +8,9 @@ pub returns : goal.returns
 returns c = (
   (refl, λ x. tt, refl),
   record {
-    value = c.bytes.ensures.value ∙ sym (offered_is c.outbox.inside.queue c.outbox.inside.cursor c.outbox.invariant.0) ∙ ap (λ (o : Owes). take QUEUE_LIMIT (owed o)) c.outbox.view_is;
+    value = c.bytes.ensures.value ∙
+        sym (offered_is c.outbox.inside.queue c.outbox.inside.cursor c.outbox.invariant.0) ∙
+        ap (λ (o : Owes). take QUEUE_LIMIT (owed o)) c.outbox.view_is;
     queue = c.bytes.ensures.value ∙ ap (λ (o : Owes). o.queue) c.outbox.view_is;
     same = tt;
   },

@@ -5,4 +5,5 @@ use Rattle.nutloop.proofs.over_mio.MioSocketsSockets.known.Goals as goal
 
 pub returns-in-None : goal.returns-in-None
 returns-in-None g c =
-    subst (λ (t : Told). Knows t c.args.server.now.state c.next_turn.result (told_of c.next_turn.new.self)) (ap told_of c.next_id.ensures) c.next_turn.ensures
+    subst (λ (t : Told). Knows t c.args.server.now.state c.next_turn.result
+    (told_of c.next_turn.new.self)) (ap told_of c.next_id.ensures) c.next_turn.ensures

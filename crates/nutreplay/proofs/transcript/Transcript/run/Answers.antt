@@ -6,7 +6,8 @@ use Rattle.nutreplay.proofs.transcript.Transcript.run.Goals as goal
 pub loop-line-init : goal.loop-line-init
 unfolding actions_of first_bad_line
 loop-line-init c =
-    let lines : c.into_iter-line-iterator.result ≡ lines_of c.args.script.now = c.into_iter-line-iterator.ensures.into_iter_gives ∙ c.of-line-items.ensures.value in
+    let lines : c.into_iter-line-iterator.result ≡ lines_of c.args.script.now =
+    c.into_iter-line-iterator.ensures.into_iter_gives ∙ c.of-line-items.ensures.value in
     record {
       ends = λ t h. rw lines at h;
       bad = rw lines refl;
@@ -17,5 +18,6 @@ loop-line-init c =
 
 pub overflow_add-number : goal.overflow_add-number
 overflow_add-number c =
-    let short : c.loop-line.number + length (c.in-Some.line.now ∷ c.next.new.self) ≡ length (lines_of c.args.script.now) = rw c.in-Some.ensures.steps at c.loop-line.invariant.short in
+    let short : c.loop-line.number + length (c.in-Some.line.now ∷ c.next.new.self) ≡
+    length (lines_of c.args.script.now) = rw c.in-Some.ensures.steps at c.loop-line.invariant.short in
     omega (arith, short, c.of-line-items.ensures.few)

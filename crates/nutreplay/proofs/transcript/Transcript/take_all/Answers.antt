@@ -11,8 +11,15 @@ loop-left-smaller c =
 pub loop-left-preserved : goal.loop-left-preserved
 loop-left-preserved c = record {
   count = c.in_ok-left-2.ensures.left;
-  ends = λ t h. c.loop-left.invariant.ends t (takes_again c.args.line c.args.peer c.loop-left.left _ _ t c.loop-left.invariant.count c.loop-left-test.true c.in_ok-left-2.ensures.happens h);
+  ends = λ t h. c.loop-left.invariant.ends t
+      (takes_again c.args.line c.args.peer c.loop-left.left _ _ t c.loop-left.invariant.count
+      c.loop-left-test.true c.in_ok-left-2.ensures.happens h);
 }
 
 pub returns : goal.returns
-returns c = (c.take.new.self, first_time c.args.line c.args.peer _ _ _ _ c.self.view_is c.count_offered-n.ensures c.in_ok-left.ensures.happens, c.loop-left.invariant.ends _ (all_taken _ (omega (arith, c.loop-left.invariant.count, c.loop-left-test.false))))
+returns c = (
+  c.take.new.self,
+  first_time c.args.line c.args.peer _ _ _ _ c.self.view_is
+      c.count_offered-n.ensures c.in_ok-left.ensures.happens,
+  c.loop-left.invariant.ends _ (all_taken _ (omega (arith, c.loop-left.invariant.count, c.loop-left-test.false))),
+)

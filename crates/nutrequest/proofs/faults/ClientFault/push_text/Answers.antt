@@ -11,4 +11,5 @@ returns-in-ErrWord-clause-text c =
 
 pub returns-in-BadTarget-clause-text : goal.returns-in-BadTarget-clause-text
 returns-in-BadTarget-clause-text c =
-    c.push-in-BadTarget.ensures.text ∙ ap (λ fault. c.args.line.now.items ++ fault_text fault) (sym c.in-BadTarget.is)
+    c.push-in-BadTarget.ensures.text ∙
+    ap (λ fault. c.args.line.now.items ++ fault_text fault) (sym c.in-BadTarget.is)

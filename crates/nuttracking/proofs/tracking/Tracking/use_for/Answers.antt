@@ -1,4 +1,5 @@
-use Rattle.std.proofs.Common.{◌≡◌, ℕ, List, [], ◌∷◌, ◌++◌, ◌-◌, length, drop, subst, ap, ◌∙◌}
+use Rattle.std.proofs.Common.{◌≡◌, ℕ, List, [], ◌∷◌, ◌++◌, ◌-◌, length, drop}
+use Rattle.std.proofs.Common.{subst, ap, ◌∙◌}
 use Rattle.circular_buffer.specs.Buffer.{Buffer, keep_last}
 use Rattle.nuttracking.proofs.KeptSound.{sound_with_order, lawful_with_order, first_of}
 use Rattle.nuttracking.specs.Sound.{IsSoundTracking}
@@ -15,10 +16,13 @@ invariant_of-self-2 c =
     let id : ℕ = c.in_ok-id.id in
     let all : List TrackedOrder = orders ++ pending c.args.place id ∷ [] in
     let before : IsSoundTracking (record { ids = id ∷ drop 1 ids; orders = orders }) =
-    subst (λ (l : List ℕ). IsSoundTracking (record { ids = l; orders = orders })) (first_of ids id c.in_ok-id.ensures.value) i.sound in
+    subst (λ (l : List ℕ). IsSoundTracking (record { ids = l; orders = orders }))
+    (first_of ids id c.in_ok-id.ensures.value) i.sound in
     let kept : c.push_back.new.self.items ≡ keep_last ORDER_LIMIT all =
-    ap (λ (b : Buffer TrackedOrder). b.items) c.push_back.ensures.items ∙ ap (λ (n : ℕ). keep_last n all) i.order_room in
-    let left : c.pop_front.new.self.items ≡ drop 1 ids = ap (λ (b : Buffer ℕ). b.items) c.pop_front.ensures.items in
+    ap (λ (b : Buffer TrackedOrder). b.items) c.push_back.ensures.items ∙
+    ap (λ (n : ℕ). keep_last n all) i.order_room in
+    let left : c.pop_front.new.self.items ≡ drop 1 ids =
+    ap (λ (b : Buffer ℕ). b.items) c.pop_front.ensures.items in
     record {
       id_room = ap (λ (b : Buffer ℕ). b.capacity) c.pop_front.ensures.items ∙ i.id_room;
       order_room = ap (λ (b : Buffer TrackedOrder). b.capacity) c.push_back.ensures.items ∙ i.order_room;

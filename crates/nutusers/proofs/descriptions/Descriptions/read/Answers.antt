@@ -6,7 +6,8 @@ use Rattle.nutusers.specs.File.{IsByLines}
 use Rattle.nutusers.proofs.DescriptionLemmas.{descriptions_of-line}
 use Rattle.nutusers.proofs.descriptions.Descriptions.read.Goals as goal
 
-by_lines : IsByLines (λ descriptions line. descriptions_with descriptions (read_table_line line)) no_descriptions descriptions_of
+by_lines : IsByLines (λ descriptions line. descriptions_with descriptions (read_table_line line))
+    no_descriptions descriptions_of
 by_lines = record { nothing = refl; one_more = descriptions_of-line }
 
 pub returns-clause-ok : goal.returns-clause-ok

@@ -22,10 +22,20 @@ by_lines = record { nothing = refl; one_more = upses_of-line }
 is_list : (c : goal.After-sort_unstable_by) → IsUpsList (lines_of c.args.bytes.now) c.sort_unstable_by.new.self.items
 is_list c =
     let means = c.in_ok-upses.ensures.ok upses_of (rw c.new.ensures.items by_lines) in
-    let same : IsPermutation (upses_of (reverse (lines_of c.args.bytes.now))) c.sort_unstable_by.new.self.items = rw (← means.value_is, ← c.upses.view_is) c.sort_unstable_by.ensures.permutation in
+    let same : IsPermutation (upses_of (reverse (lines_of c.args.bytes.now)))
+    c.sort_unstable_by.new.self.items =
+    rw (← means.value_is, ← c.upses.view_is) c.sort_unstable_by.ensures.permutation in
     let sorted : IsSorted (λ (a b : Ups). byte_order a.name b.name) c.sort_unstable_by.new.self.items =
-    c.sort_unstable_by.ensures.sorted (λ a b. is_lt (byte_order a.name b.name)) (ranks_by nat_list_cmp_total (λ (ups : Ups). ups.name)) (answers_always _ _ _ (λ f a r g h. search rules)) in
-    record { accepted = means.accepted; same = same; by_name = rising_names (λ (ups : Ups). ups.name) (upses_of (reverse (lines_of c.args.bytes.now))) c.sort_unstable_by.new.self.items (upses_apart (reverse (lines_of c.args.bytes.now)) means.accepted) same sorted }
+    c.sort_unstable_by.ensures.sorted (λ a b. is_lt (byte_order a.name b.name))
+    (ranks_by nat_list_cmp_total (λ (ups : Ups). ups.name)) (answers_always _ _ _ (λ f a r g h. search rules)) in
+    record {
+      accepted = means.accepted;
+      same = same;
+      by_name =
+          rising_names (λ (ups : Ups). ups.name) (upses_of (reverse (lines_of c.args.bytes.now)))
+          c.sort_unstable_by.new.self.items
+          (upses_apart (reverse (lines_of c.args.bytes.now)) means.accepted) same sorted;
+    }
 
 pub invariant_of-result : goal.invariant_of-result
 invariant_of-result c = record {

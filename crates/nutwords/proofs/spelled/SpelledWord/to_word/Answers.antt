@@ -7,4 +7,5 @@ use Rattle.nutwords.proofs.spelled.SpelledWord.to_word.Goals as goal
 pub unwrap-requires : goal.unwrap-requires
 unwrap-requires c =
     let text = c.self.inside.text.now in
-    some_within _ LINE_ROOM (length (unescaped text false)) c.unescaped.result c.unescaped.ensures (omega (arith, unescaped-length text false, c.self.invariant.1))
+    some_within _ LINE_ROOM (length (unescaped text false)) c.unescaped.result c.unescaped.ensures
+    (omega (arith, unescaped-length text false, c.self.invariant.1))
