@@ -10,13 +10,14 @@ pairs "- TEXT" and "+ TEXT", each of one line, whose first stands in the file ex
 Entries of different functions make a round: one check of the edited functions and what they call. Refused is an
 entry only where a goal of its own function stays open; that a callee isn't proved counts for nothing, since a caller
 is checked against its callee's contract. A round counts only where it reached the prover and no function that nobody
-edited has an open goal; else it is halved. The last line says how many were refused.
+edited has an open goal; else it is halved. What a round left is judged alone. The last line says how many were refused.
 
 What was refused is kept on this machine beside what `rt ci` keeps, by a sum of the entry, of this file, of the kit and
 of all sources that the check reads. So a later run over the same sources judges the others."""
 import concurrent.futures as futures
 import contextlib
 import hashlib
+import itertools
 import json
 import os
 import re
@@ -144,9 +145,11 @@ def judge(crate, edits, anew=False):
     judged = {it: before[key(it)] for it in edits if not it.why and key(it) in before}
     # What a round proves serves the next one.
     with tempfile.TemporaryDirectory(prefix="edits-kept-") as kept:
-        for some in rounds_of([it for it in edits if it not in judged]):
-            judged |= in_round(crate, [it for it in some if it.function and not it.why], kept)
-            if not anew:
+        # An edit whose function calls another one that is edited may stay in a round: it is judged alone then.
+        for some in itertools.chain(rounds_of([it for it in edits if it not in judged]), ([it] for it in edits)):
+            left = [it for it in some if it not in judged and it.function and not it.why]
+            judged |= in_round(crate, left, kept)
+            if left and not anew:
                 keep(file, before | {key(it): why for it, why in judged.items()})
     said = [f"{it.name}: refused: {why[:160]}" for it, why in judged.items()]
     return said, [it.name + f" ({it.why})" * bool(it.why) for it in edits if it not in judged]
