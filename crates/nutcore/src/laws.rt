@@ -41,8 +41,8 @@ pub fn what_was_sent_and_is_owed_is_the_answers()
     ensures { WhatWasSentAndIsOwedIsTheAnswers }
 {}
 
-/// What a client sent is its executed lines, in order, followed by the input that is still held. Of
-/// an ending or closed client, a beginning is executed.
+/// What the server took in of a client is its executed lines, in order, followed by the input that
+/// is still held. Of an ending or closed client, a beginning is executed.
 #[tactic(auto, using(crate::proofs::Stepping::run_taken_up))]
 pub fn what_was_asked_is_executed_or_held()
     ensures { WhatWasAskedIsExecutedOrHeld }
@@ -76,8 +76,9 @@ pub fn a_refused_line_changes_nothing()
     only_ok_changes();
 }
 
-/// Clients are shown `FSD ` before `ups.status` exactly after an `FSD` of that UPS, answered `OK
-/// FSD-SET`, from a session with a user's name, password and right.
+/// The status that a line is shown begins with `FSD ` exactly where that UPS was shut down before:
+/// at the beginning of the run, or by an `FSD` that was answered `OK FSD-SET`, from a session with a
+/// user's name, password and right.
 #[tactic(auto, using(crate::proofs::ShutdownMarks::shutdowns))]
 pub fn a_forced_shutdown_reaches_everybody()
     ensures { AForcedShutdownReachesEverybody }
@@ -115,8 +116,8 @@ pub fn a_line_is_answered_at_once()
     ensures { ALineIsAnsweredAtOnce }
 {}
 
-/// A session's user name, password and login stay as given. An ending session goes on ending, a
-/// closed one never returns.
+/// A session's user name and password stay as given, its login until it is ending. An ending
+/// session goes on ending, a closed one never returns.
 #[tactic(auto, using(crate::proofs::Lasting::never_back))]
 pub fn what_never_goes_back()
     ensures { WhatNeverGoesBack }
@@ -230,7 +231,7 @@ pub fn whatever_is_answered_is_fresh()
 }
 
 /// A driver that is silent for a third of MAXAGE is sent a `PING` by the next tick, if there is
-/// room: before its data are stale.
+/// room: before its data are stale, where ticks come at least each third.
 pub fn a_silent_driver_is_asked()
     ensures { ASilentDriverIsAsked }
 {}
