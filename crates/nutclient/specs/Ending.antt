@@ -11,7 +11,7 @@ use Rattle.nutio.specs.Writing.{SendGives}
 use Rattle.nutio.specs.declared.ends.Failed.{Failed}
 use Rattle.nutrequest.specs.declared.faults.ClientFault.{ClientFault}
 use Rattle.nutclient.specs.Requests.{last_reply}
-use Rattle.nutclient.specs.Printed.{text_of}
+use Rattle.nutclient.specs.Printed.{RunGives, text_of}
 use Rattle.nutclient.specs.Shown.{shown}
 use Rattle.nutclient.specs.declared.form.Form.{Form}
 use Rattle.nutclient.specs.declared.program.Program.{Program}
@@ -46,6 +46,18 @@ abbrev pub EndsBy : {E : Type 0} → (E → Option (List ℕ)) → (E → ℕ) �
 EndsBy contents failures program (Ok done) err status after = (status ≡ 0) × (after ≡ err)
 EndsBy contents failures program (Err fault) err status after =
     (why : List ℕ) × Reports contents failures program fault why err status after
+
+-- What came of a job over these two ends: what was sent, what came and what was printed, and by
+-- that the status and what is reported.
+abbrev pub DoesJob : {R W O E : Type 0} → (R → Option (List ℕ)) → (R → ℕ) → (W → Option (List ℕ))
+    → (W → ℕ) → (O → Option (List ℕ)) → (O → ℕ) → (E → Option (List ℕ)) → (E → ℕ) → Program
+    → List Request → Form → Bool → R → W → O → E → ℕ → List ℕ → R → W → O → E → Type 0
+DoesJob remaining failures contents write_failures printed print_failures reported report_failures
+    program requests form is_terminal reader writer out err status rest after sent then told =
+    (outcome : Result (Unit {0}) ClientFault)
+    × RunGives remaining failures contents write_failures printed print_failures
+    requests form is_terminal [] reader writer out outcome rest after sent then
+    × EndsBy reported report_failures program outcome err status told
 
 -- A job that is done: the writer took the line of each request, once and in their order; what came
 -- is a whole reply to each; and the output took the text of the last one's items.

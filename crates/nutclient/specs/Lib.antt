@@ -5,4 +5,5 @@ pub mod Target
 pub mod Job
 pub mod Ending
 pub mod Clues
+pub mod Asked
 pub mod Start

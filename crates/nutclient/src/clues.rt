@@ -27,8 +27,7 @@ pub(crate) enum Place {
 /// What the connection and the output of a job meet. They note it here, since a session learns only
 /// that a call failed.
 #[derive(Drop)]
-pub struct Clues<'a> {
-    job: &'a Job,
+pub struct Clues {
     /// The address that was tried last: none where the host isn't found.
     address: Cell<Option<SocketAddr>>,
     failed: Cell<Option<(Place, Error)>>,
@@ -37,11 +36,10 @@ pub struct Clues<'a> {
     sent: Cell<usize>,
 }
 
-impl<'a> Clues<'a> {
-    /// Of a job that nothing was met of yet.
-    pub fn new(job: &'a Job) -> Clues<'a> {
+impl Clues {
+    /// Nothing was met yet.
+    pub fn new() -> Clues {
         Clues {
-            job,
             address: Cell::new(None),
             failed: Cell::new(None),
             has_heard: Cell::new(false),
@@ -74,26 +72,35 @@ impl<'a> Clues<'a> {
         self.sent.set(self.sent.get().saturating_add(lines));
     }
 
-    /// Why the fault came.
-    pub(crate) fn why(&self, fault: &ClientFault) -> Why {
+    /// Why this job met the fault.
+    pub(crate) fn why(&self, job: &Job, fault: &ClientFault) -> Why {
         let mut why = Why::new();
         // What has no room is left out.
-        let _ = self.push_why(fault, &mut why);
+        let _ = self.push_why(job, fault, &mut why);
         why
     }
 
-    fn push_why(&self, fault: &ClientFault, why: &mut Why) -> fmt::Result {
+    fn push_why(&self, job: &Job, fault: &ClientFault, why: &mut Why) -> fmt::Result {
+        let server = job.target.address().0;
         match fault {
             ClientFault::ErrWord(word) => why.write_str(meaning(word.as_bytes()))?,
             ClientFault::EarlyEnd if self.has_heard.get() => {
-                self.push_of_server("the server closed the connection", why)?;
+                self.push_of_server(server, "the server closed the connection", why)?;
             }
-            ClientFault::EarlyEnd => self.push_of_server("sent away: the server is full", why)?,
-            ClientFault::BadReply => self.push_of_server("no reply of a UPS server came", why)?,
+            ClientFault::EarlyEnd => self.push_of_server(
+                server,
+                "sent away: the server is full",
+                why,
+            )?,
+            ClientFault::BadReply => self.push_of_server(
+                server,
+                "no reply of a UPS server came",
+                why,
+            )?,
             ClientFault::BadTarget | ClientFault::Memory => {}
-            _ => self.push_failed(why)?,
+            _ => self.push_failed(server, why)?,
         }
-        if may_be_given(&self.job.requests, self.sent.get(), fault) {
+        if may_be_given(&job.requests, self.sent.get(), fault) {
             let mark = if why.is_empty() { "" } else { "; " };
             write!(
                 why,
@@ -103,26 +110,27 @@ impl<'a> Clues<'a> {
         Ok(())
     }
 
-    fn push_of_server(&self, text: &str, why: &mut Why) -> fmt::Result {
-        self.push_place(Place::Server, why)?;
+    fn push_of_server(&self, server: &str, text: &str, why: &mut Why) -> fmt::Result {
+        self.push_place(server, Place::Server, why)?;
         write!(why, ": {text}")
     }
 
     /// Appends what the system said of the call that failed, if one did.
-    fn push_failed(&self, why: &mut Why) -> fmt::Result {
+    fn push_failed(&self, server: &str, why: &mut Why) -> fmt::Result {
         let Some((place, error)) = self.failed.get() else {
             return Ok(());
         };
-        self.push_place(place, why)?;
+        self.push_place(server, place, why)?;
         why.write_str(": ")?;
         push_error(error, why)
     }
 
-    fn push_place(&self, place: Place, why: &mut Why) -> fmt::Result {
+    /// Appends what failed: the output, or the address of this server that was tried last.
+    fn push_place(&self, server: &str, place: Place, why: &mut Why) -> fmt::Result {
         match (place, self.address.get()) {
             (Place::Output, _) => why.write_str("standard output"),
             (Place::Server, Some(address)) => write!(why, "{address}"),
-            (Place::Server, None) => why.write_str(self.job.target.address().0),
+            (Place::Server, None) => why.write_str(server),
         }
     }
 }

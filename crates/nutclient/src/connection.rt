@@ -1,17 +1,70 @@
 //! The connection to a server.
-ghost use Rattle.std.specs.Prelude.{◌≡◌, ◌⊎◌, IfErr};
+ghost use Rattle.std.specs.Prelude.{◌≡◌, Result, IfErr};
+ghost use Rattle.nutrequest.specs.declared.faults.ClientFault.{ClientFault};
+ghost use Rattle.nutclient.specs.Asked.{HasNoConnection};
+ghost use Rattle.nutclient.specs.declared.target.Target.{Target};
 
 use crate::Target;
 use crate::clues::{Clues, Place};
 use crate::limits::WAIT_SECONDS;
 use libc::net::{POLLIN, POLLOUT, poll};
 use libc::types::pollfd;
+use nutio::{CountedReader, CountedWriter, Sink, Source};
 use nutrequest::ClientFault;
 use std::io;
 use std::io::{ErrorKind, Read, Write};
 use std::net::{TcpStream, ToSocketAddrs};
 use std::os::fd::AsRawFd;
 use std::time::Duration;
+
+/// Where a program connects to its server.
+pub trait Network {
+    /// The ends of a connection.
+    type Reader: Source + Drop;
+
+    type Writer: Sink + Drop;
+
+    /// What connecting to a server gives: both ends, or why there are none.
+    ghost connects: { Self → Target → Result (Self.Reader × Self.Writer) ClientFault → Type 0 };
+
+    /// Connects to the server.
+    fn connect(&self, target: &Target) -> Result<(Self::Reader, Self::Writer), ClientFault>
+        ensures gives { connects self.now target.now result }
+        ensures fault { IfErr result HasNoConnection };
+}
+
+/// The system's network. No clause can say what its servers send. What it meets is noted.
+#[derive(Clone, Copy)]
+pub(crate) struct Tcp<'a> {
+    pub rt: &'a HostRuntime,
+    pub clues: &'a Clues,
+}
+
+impl<'a> Network for Tcp<'a> {
+    ghost use Rattle.std.specs.Prelude.{⊤};
+
+    type Reader = CountedReader<Patient<'a, TcpStream>>;
+
+    type Writer = CountedWriter<Patient<'a, TcpStream>>;
+
+    ghost connects = { λ _ _ _. ⊤ };
+
+    fn connect(&self, target: &Target) -> Result<(Self::Reader, Self::Writer), ClientFault> {
+        let clues = self.clues;
+        let writer = connect(self.rt, target, clues)?;
+        let reader = clues.note(Place::Server, writer.try_clone())?;
+        Ok((
+            CountedReader::new(Patient {
+                stream: reader,
+                clues,
+            }),
+            CountedWriter::new(Patient {
+                stream: writer,
+                clues,
+            }),
+        ))
+    }
+}
 
 /// Connects to the server: its name is looked up by the system, and each of its addresses is tried
 /// in turn. No address is waited for longer than `WAIT_SECONDS`. It sends each line at once. Why it
@@ -20,13 +73,8 @@ use std::time::Duration;
 /// # Errors
 ///
 /// `Connect` where no address takes the connection in time; `Memory`.
-pub fn connect(
-    rt: &HostRuntime,
-    target: &Target,
-    clues: &Clues<'_>,
-) -> Result<TcpStream, ClientFault>
-    ensures { IfErr result
-        (λ fault. (fault ≡ ClientFault.Connect) ⊎ (fault ≡ ClientFault.Memory)) }
+pub fn connect(rt: &HostRuntime, target: &Target, clues: &Clues) -> Result<TcpStream, ClientFault>
+    ensures { IfErr result HasNoConnection }
 {
     let wait = Duration::from_secs(WAIT_SECONDS);
     let mut last = io::Error::from(ErrorKind::NotFound);
@@ -46,13 +94,13 @@ pub fn connect(
 
 /// An end of a connection. A read or a write waits for `WAIT_SECONDS` at most. The system itself
 /// goes on waiting where the program is stopped meanwhile, and continued. What it meets is noted.
-#[derive(Clone, Copy, Drop)]
-pub struct Patient<'a> {
-    pub stream: &'a TcpStream,
-    pub clues: &'a Clues<'a>,
+#[derive(Drop)]
+pub(crate) struct Patient<'a, S> {
+    pub stream: S,
+    pub clues: &'a Clues,
 }
 
-impl Patient<'_> {
+impl<S: AsRawFd> Patient<'_, S> {
     /// Waits until one of these events is there.
     fn wait(&self, events: i16) -> io::Result<()> {
         let mut asked = [pollfd {
@@ -69,7 +117,10 @@ impl Patient<'_> {
     }
 }
 
-impl Read for Patient<'_> {
+/// It gives the bytes of the stream.
+impl<S: Read + AsRawFd> Read for Patient<'_, S> {
+    ghost remaining = { λ end. S.Read.remaining end.stream };
+
     fn read(&mut self, into: &mut [u8]) -> io::Result<usize> {
         self.wait(POLLIN)?;
         let count = self.clues.note(Place::Server, self.stream.read(into))?;
@@ -78,7 +129,10 @@ impl Read for Patient<'_> {
     }
 }
 
-impl Write for Patient<'_> {
+/// The stream takes its bytes.
+impl<S: Write + AsRawFd> Write for Patient<'_, S> {
+    ghost contents = { λ end. S.Write.contents end.stream };
+
     fn write(&mut self, from: &[u8]) -> io::Result<usize> {
         self.wait(POLLOUT)?;
         let count = self.clues.note(Place::Server, self.stream.write(from))?;
@@ -87,18 +141,21 @@ impl Write for Patient<'_> {
     }
 
     fn flush(&mut self) -> io::Result<()> {
-        Ok(())
+        self.stream.flush()
     }
 }
 
 /// The output, which notes why it fails.
 #[derive(Drop)]
-pub struct Output<'a, W> {
+pub(crate) struct Output<'a, W> {
     pub writer: W,
-    pub clues: &'a Clues<'a>,
+    pub clues: &'a Clues,
 }
 
+/// The writer takes its bytes.
 impl<W: Write> Write for Output<'_, W> {
+    ghost contents = { λ out. W.contents out.writer };
+
     fn write(&mut self, from: &[u8]) -> io::Result<usize> {
         self.clues.note(Place::Output, self.writer.write(from))
     }

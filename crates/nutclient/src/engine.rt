@@ -1,11 +1,10 @@
 //! The engine of the programs.
-ghost use Rattle.std.specs.Prelude.{◌≡◌, ◌≢◌, ◌≤◌, ◌++◌, [], Err, OnErr, OnOk, true, false, Some, List, ℕ, Result};
+ghost use Rattle.std.specs.Prelude.{◌≡◌, ◌≢◌, ◌≤◌, ◌++◌, [], Err, OnErr, OnOk, true, false, Some, List, ℕ};
 ghost use Rattle.nutio.specs.Ends.{NoneFailed};
 ghost use Rattle.nutrequest.specs.State.{unread_of, reader_of, writer_of};
-ghost use Rattle.nutrequest.specs.declared.faults.ClientFault.{ClientFault};
 ghost use Rattle.nutclient.specs.Requests.{RequestsGive};
 ghost use Rattle.nutclient.specs.Printed.{printed, RunGives, Answers};
-ghost use Rattle.nutclient.specs.Ending.{EndsBy, IsDone};
+ghost use Rattle.nutclient.specs.Ending.{DoesJob, IsDone};
 
 use crate::clues::Clues;
 use crate::ending::report;
@@ -27,14 +26,13 @@ pub fn do_job<R: Source, W: Sink, O: Sink, E: Sink>(
     is_terminal: bool,
     program: Program,
     job: &Job,
-    clues: &Clues<'_>,
+    clues: &Clues,
 ) -> (u8, Session<R, W>)
     // What was sent, what came and what was printed, and by that the status and what is reported.
-    ensures gives { (outcome : Result (Unit {0}) ClientFault)
-        × RunGives R.remaining R.failures W.contents W.failures O.contents O.failures
-        job.now.requests.items job.now.form is_terminal [] reader writer out.old outcome
-        (unread_of result.1) (reader_of result.1) (writer_of result.1) out.new
-        × EndsBy E.contents E.failures program outcome err.old result.0 err.new }
+    ensures gives { DoesJob R.remaining R.failures W.contents W.failures O.contents O.failures
+        E.contents E.failures program job.now.requests.items job.now.form is_terminal
+        reader writer out.old err.old result.0
+        (unread_of result.1) (reader_of result.1) (writer_of result.1) out.new err.new }
     // Status 0 says that each request was sent once, and that what is printed is the last reply.
     ensures done { result.0 ≡ 0 → IsDone R.remaining R.failures W.contents W.failures O.contents
         O.failures job.now.requests.items job.now.form is_terminal reader writer out.old
@@ -44,7 +42,10 @@ pub fn do_job<R: Source, W: Sink, O: Sink, E: Sink>(
     let mut session = Session::new(alloc, reader, writer);
     match run(&mut session, out, is_terminal, job) {
         Ok(()) => (0, session),
-        Err(fault) => (report(err, program, &fault, &clues.why(&fault)), session),
+        Err(fault) => (
+            report(err, program, &fault, &clues.why(job, &fault)),
+            session,
+        ),
     }
 }
 

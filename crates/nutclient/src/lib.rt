@@ -2,6 +2,7 @@
 //! ask for, the requests that are sent for it, and what is printed of the replies.
 #![tactic(auto)]
 
+mod asked;
 mod client;
 mod clues;
 mod connection;
@@ -22,7 +23,7 @@ mod target;
 
 pub use client::Client;
 pub use clues::Clues;
-pub use connection::connect;
+pub use connection::{Network, connect};
 pub use engine::{do_job, run};
 pub use form::Form;
 pub use given::{Given, Sender};

@@ -26,7 +26,7 @@ static WORDS: [Word; 7] = words! {
     "tracked": LongOption("ID"), Excludes("VAR"),
         "Print how the order with this id ended, or PENDING";
     "UPS": Operand("UPS|HOST"), StandsUnless("l", "L"),
-        "The UPS, as ups[@host[:port]]; with -l or -L the server, as host[:port]";
+        "The UPS, ups[@host[:port]]; with -l or -L the server, host[:port]";
     "VAR": Operand("VAR"), Free, "Print only the value of this variable";
 };
 

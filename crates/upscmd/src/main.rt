@@ -19,8 +19,7 @@ static WORDS: [Word; 7] = words! {
         "List the commands of the UPS";
     "u": ShortOption('u', "USER"), StandsUnless("l"), "The user's name";
     "p": ShortOption('p', "PASS"), StandsUnless("l"), "The user's password";
-    "track": LongFlag, Free,
-        "Have the server track the order, and print its id instead of OK";
+    "track": LongFlag, Free, "Track the order, and print its id instead of OK";
     "UPS": Operand("UPS"), Required, "The UPS, as ups[@host[:port]]";
     "CMD": Operand("CMD"), StandsUnless("l"), "The command to send";
     "VALUE": Operand("VALUE"), Free, "A value for the command";

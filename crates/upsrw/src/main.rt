@@ -18,8 +18,7 @@ static WORDS: [Word; 5] = words! {
     "s": ShortOption('s', "VAR=VALUE"), Needs("u", "p"), "Set the variable to the value";
     "u": ShortOption('u', "USER"), Needs("s"), "The user's name, for -s";
     "p": ShortOption('p', "PASS"), Needs("s"), "The user's password, for -s";
-    "track": LongFlag, Needs("s"),
-        "Have the server track the order, and print its id instead of OK, for -s";
+    "track": LongFlag, Needs("s"), "Track the order, and print its id instead of OK, for -s";
     "UPS": Operand("UPS"), Required, "The UPS, as ups[@host[:port]]";
 };
 
