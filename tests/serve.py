@@ -408,10 +408,10 @@ def drivers_that_are_not_there_are_tried_again():
         assert comes(lambda: good.ask(asks).count(b'"1"') == 3)
         wanted = [f"upsd: {name}: {news}" for name in "abc" for news in ["data good", "driver connected"]]
         assert comes(lambda: [line for line in sorted(server.journal().splitlines()) if "cannot connect" not in line] == wanted), server.journal()
-        drivers[2].lose()
-        drivers[2].listener.close()  # its file stays, and nobody listens: the reason that there was before
-        assert comes(lambda: server.journal().endswith("upsd: c: driver lost\nupsd: c: " + REFUSED)), server.journal()
-        for driver in drivers:
+        os.unlink(absent)
+        drivers[0].lose()  # once more for the reason that there was before
+        assert comes(lambda: server.journal().endswith("upsd: a: driver lost\nupsd: a: " + NO_FILE)), server.journal()
+        for driver in drivers[1:]:
             driver.close()
 
 
