@@ -10,6 +10,7 @@ import os
 import re
 import select
 import shutil
+import signal
 import socket
 import subprocess
 import sys
@@ -632,6 +633,20 @@ def nobody_waits_for_slow_readers():
         assert EMULATED or grown < 24 * 64, f"{grown} KB more for 63 slow clients"
 
 
+def all_that_comes_at_one_moment_is_heard():
+    """Of as many clients as there may be, while a newcomer waits."""
+    with served() as (server, _, good):
+        clients = [good, *(server.client() for _ in range(62))]
+        assert all(client.ask(GET) == STATUS for client in clients)
+        server.process.send_signal(signal.SIGSTOP)
+        late = server.client()
+        for client in clients:
+            client.send(GET)
+        server.process.send_signal(signal.SIGCONT)
+        assert all(client.line() == STATUS for client in clients)
+        assert late.ask(GET) == STATUS
+
+
 def a_standing_connection_lists_without_delay():
     with served(many(1000, 10)) as (_, _, good):
         waits = []
@@ -665,6 +680,19 @@ def a_client_that_half_closes_gets_all_whatever_follows_its_end():
                 time.sleep(0.2)
                 got = client.up_to_end()
                 assert got == many_listed(1000, 100) + last, (len(got), got[-20:])
+
+
+def a_client_that_ends_between_a_look_and_a_read_gets_all():
+    """It sends as much as one read takes, so that the next read finds its end while it is owed an answer."""
+    narrow = BENCH.library("narrow.c")
+    with served(many(1000, 100), env={**os.environ, "LD_PRELOAD": narrow, "ENDS_LATE": "1"}) as (server, _, _):
+        client = server.client()
+        server.process.send_signal(signal.SIGSTOP)
+        client.send(b"LIST VAR su\n".ljust(2048, b"\n"))
+        client.wire.shutdown(socket.SHUT_WR)
+        server.process.send_signal(signal.SIGCONT)
+        got = client.up_to_end()
+        assert got == many_listed(1000, 100), len(got)
 
 
 def a_client_that_is_not_watched_is_closed_and_its_place_is_free():
