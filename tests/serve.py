@@ -377,14 +377,15 @@ def drivers_are_connected_to_before_it_says_that_it_listens():
 
 def a_lost_driver_comes_back():
     with served() as (server, driver, good):
-        for lose in (driver.lose, lambda: driver.send(b"x" * 100_000)):  # it ends, or sends no LF
+        cut_off = "upsd: drivers cut off, out of memory or by an endless line: 1\n"
+        for lose, is_cut_off in ((driver.lose, False), (lambda: driver.send(b"x" * 100_000), True)):  # it ends, or sends no LF
             with contextlib.suppress(OSError):
                 lose()
             assert comes(lambda: good.ask(GET) != STATUS)  # it may be connected to again by now
             driver.lose()
             driver.accept(TWO)
             assert comes(lambda: good.ask(GET) == STATUS)
-        cut_off = "upsd: drivers cut off, out of memory or by an endless line: 1\n"
+            assert comes(lambda: (cut_off in server.journal()) == is_cut_off), server.journal()  # noqa: B023
         wanted = COME + f"upsd: su: driver lost\n{COME}" * 2
         assert comes(lambda: cut_off in server.journal() and server.journal().replace(cut_off, "", 1) == wanted), server.journal()
 
