@@ -1,6 +1,7 @@
 #!/usr/bin/env python3
 """What a real network asks of the server: the built upsd on real sockets, at ports that the system gives. Words: the names of the
 cases, if not all are to run. A function without a parameter is a case."""
+import atexit
 import contextlib
 import fcntl
 import functools
@@ -955,5 +956,6 @@ file("users", USERS)
 RESTLESS_DRIVER, SLOW_DRIVER = Driver(path("restless.sock")), Driver(path("slow.sock"))
 RESTLESS = serving.Server(UPSD, file("restless.conf", f"[slow]\nsocket = {SLOW_DRIVER.path}\n[su]\nsocket = {RESTLESS_DRIVER.path}\n"),
                           "--users", path("users"), "--maxage", str(GREATER_AGE))  # fmt: skip
+atexit.register(RESTLESS.close)
 threading.Thread(target=come_and_go, args=(RESTLESS_DRIVER,), daemon=True).start()
 BENCH.run(globals(), *sys.argv[1:])
