@@ -190,12 +190,11 @@ def a_forced_shutdown_is_seen_and_each_order_of_it_logged():
         logs(server, *["admin@127.0.0.1 ordered FSD: forced shutdown"] * 2)
 
 
-def read_to_end_of_drops(reading):
-    """The lines of a standard error, up to the one that says how many were dropped."""
-    journal = b""
-    while not journal.endswith(b"were dropped\n"):
+def read_to_end_of_drops(reading, journal):
+    """The lines of a standard error that begins so, up to the one that says how many were dropped."""
+    while not re.search(rb"were dropped\r?\n$", journal):
         assert select.select([reading], [], [], 4)[0], journal[-200:]
-        journal += os.read(reading, 1 << 16).replace(b"\r\n", b"\n")
+        journal += os.read(reading, 1 << 16)
     return journal.decode().splitlines()
 
 
@@ -212,8 +211,11 @@ def a_standard_error_that_nobody_reads_stops_nothing():
                     assert client.ask(b"LOGIN su\n" * 8) == refusal * 8
                     slowest, asked = max(slowest, worst_wait(good, 1)), asked + 8
                 time.sleep(1)
-            begin = time.monotonic()
-            lines = read_to_end_of_drops(reading)
+            # Once there is room for a piece, no more is written.
+            journal = os.read(reading, 4096)
+            time.sleep(1.1)
+            slowest, begin = max(slowest, worst_wait(good, 1)), time.monotonic()
+            lines = read_to_end_of_drops(reading, journal)
             # A pipe takes all that waits at once, a terminal some of it.
             assert os.isatty(reading) or time.monotonic() - begin < 3, "the lines lag"
             refused, dropped = sum("refused LOGIN" in line for line in lines), int(lines[-1].split()[1])
