@@ -10,6 +10,7 @@
  * a line each.
  * REFUSING: an address that each name has before that one, and that refuses each connection.
  * WATCHED, UNWATCHED: so many sockets are watched for events, and for so many after them that is refused.
+ * ENDS_LATE: no event reports that a peer sends no more, as if it had ended after the events were asked for.
  * WRITABLE: how often poll finds that a socket takes bytes. A connection that begins is found so once.
  */
 #define _GNU_SOURCE
@@ -116,6 +117,16 @@ int epoll_ctl(int set, int what, int file, struct epoll_event *event)
         return -1;
     }
     return real(set, what, file, event);
+}
+
+int epoll_wait(int set, struct epoll_event *events, int most, int wait)
+{
+    int (*real)(int, struct epoll_event *, int, int) = dlsym(RTLD_NEXT, "epoll_wait");
+    int count = real(set, events, most, wait);
+    for (int i = 0; i < count; i++)
+        if (getenv("ENDS_LATE"))
+            events[i].events &= ~EPOLLRDHUP;
+    return count;
 }
 
 int getaddrinfo(const char *host, const char *service, const struct addrinfo *hints, struct addrinfo **found)

@@ -1,11 +1,12 @@
 #!/usr/bin/env python3
 """Records of `upsd serve --record`: the replay of one prints what each client and each driver was sent, byte for byte; what a full disk
-leaves; records that are masked. A function without a parameter is a case."""
+leaves; records that are masked. Words: the names of the cases, if not all are to run. A function without a parameter is a case."""
 import contextlib
 import os
 import re
 import resource
 import subprocess
+import sys
 import time
 
 from replaying import HERE, Bench, built, difference, sent
@@ -56,9 +57,10 @@ def replays(name, want):
 
 
 def a_record_replays_to_the_same_bytes():
-    """Of orders, and a driver that restarts. peers.py records real programs."""
+    """Of orders, and a driver that restarts. Its file has an odd name, which its head has on one line. peers.py records real programs."""
     reported = TWO + b"SETFLAGS battery.charge RW STRING\nSETAUX battery.charge 8\n"
-    with recorded("session", reported, "--ids", "/dev/urandom") as (server, driver, good):
+    name, begun = "ses\nsion", int(time.time())
+    with recorded(name, reported, "--ids", "/dev/urandom") as (server, driver, good):
         good.ask(GET + b"LIST UPS\n\nNO SUCH\n", 5)
         assert good.ask(ADMIN + b"SET VAR su battery.charge 99\n") == b"OK\n" * 3
         assert driver.order().startswith(b"SET battery.charge")
@@ -71,19 +73,20 @@ def a_record_replays_to_the_same_bytes():
         mon = server.client()
         assert mon.ask(b"USERNAME mon\nPASSWORD pw\nLOGIN su\nLOGOUT\n") == b"OK\nOK\nOK\nOK Goodbye\n"
         mon.up_to_end()
-        replays("session", end(server, driver))
-    record = f"{FOLDER}/session"
+        replays(name, end(server, driver))
+    record = f"{FOLDER}/{name}"
     assert os.stat(record).st_mode & 0o777 == 0o600
-    lines = content("session").split(b"\n")
-    assert lines[0] == b"maxage 15" and lines[1].startswith(b"# Voqarchay ") and lines[1].endswith(b"--ids /dev/urandom"), lines[:2]
+    lines = content(name).split(b"\n")
+    head = re.fullmatch(rb"# Voqarchay \S+ at ([0-9]+): .*/ses\\nsion --ids /dev/urandom", lines[1])
+    assert lines[0] == b"maxage 15" and head and begun <= int(head[1]) <= begun + 60, lines[:2]
     verbs = {line.split(b" ")[0] for line in lines[2:-1]}
     assert verbs >= {b"up", b"down", b"driver-hex", b"driver-took", b"tick", b"open", b"client-hex", b"took", b"close", b"id"}, verbs
     # A file that exists is never written to, and the server serves.
-    with recorded("session", TWO) as (server, _, good):
+    with recorded(name, TWO) as (server, _, good):
         assert good.ask(GET).startswith(b"VAR")
         warning = f"upsd: warning: {record}: cannot create, and nothing is recorded: File exists\n"
         assert server.journal().startswith(warning), server.journal()
-    assert content("session").split(b"\n") == lines
+    assert content(name).split(b"\n") == lines
     return f"{len(lines)} lines"
 
 
@@ -113,6 +116,14 @@ def a_full_disk_ends_the_record_and_not_the_server():
 
 def a_limit_ends_the_record_and_not_the_server():
     return serves_on("limited", MIB, "--record-limit", "1")
+
+
+def a_record_without_a_limit_has_more_than_a_mebibyte():
+    with recorded("default", TWO) as (server, driver, _):
+        driver.send(b"SETINFO x %s\n" % (b"y" * 500) * (MIB // 1000))
+        assert comes(driver.is_read)
+        replays("default", end(server, driver))
+    assert len(content("default")) > MIB, len(content("default"))
 
 
 def replaying_takes_three_times_the_record_at_most():
@@ -191,4 +202,4 @@ def a_masked_record_replays():
     assert (ended.returncode, ended.stderr) == (2, "usage: mask USERS RECORD [VALUE..]\n"), ended
 
 
-BENCH.run(globals())
+BENCH.run(globals(), *sys.argv[1:])

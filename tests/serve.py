@@ -1,6 +1,7 @@
 #!/usr/bin/env python3
 """What a real network asks of the server: the built upsd on real sockets, at ports that the system gives. Words: the names of the
 cases, if not all are to run. A function without a parameter is a case."""
+import atexit
 import contextlib
 import fcntl
 import functools
@@ -10,6 +11,7 @@ import os
 import re
 import select
 import shutil
+import signal
 import socket
 import subprocess
 import sys
@@ -188,12 +190,11 @@ def a_forced_shutdown_is_seen_and_each_order_of_it_logged():
         logs(server, *["admin@127.0.0.1 ordered FSD: forced shutdown"] * 2)
 
 
-def read_to_end_of_drops(reading):
-    """The lines of a standard error, up to the one that says how many were dropped."""
-    journal = b""
-    while not journal.endswith(b"were dropped\n"):
+def read_to_end_of_drops(reading, journal):
+    """The lines of a standard error that begins so, up to the one that says how many were dropped."""
+    while not re.search(rb"were dropped\r?\n$", journal):
         assert select.select([reading], [], [], 4)[0], journal[-200:]
-        journal += os.read(reading, 1 << 16).replace(b"\r\n", b"\n")
+        journal += os.read(reading, 1 << 16)
     return journal.decode().splitlines()
 
 
@@ -210,8 +211,11 @@ def a_standard_error_that_nobody_reads_stops_nothing():
                     assert client.ask(b"LOGIN su\n" * 8) == refusal * 8
                     slowest, asked = max(slowest, worst_wait(good, 1)), asked + 8
                 time.sleep(1)
-            begin = time.monotonic()
-            lines = read_to_end_of_drops(reading)
+            # Once there is room for a piece, no more is written.
+            journal = os.read(reading, 4096)
+            time.sleep(1.1)
+            slowest, begin = max(slowest, worst_wait(good, 1)), time.monotonic()
+            lines = read_to_end_of_drops(reading, journal)
             # A pipe takes all that waits at once, a terminal some of it.
             assert os.isatty(reading) or time.monotonic() - begin < 3, "the lines lag"
             refused, dropped = sum("refused LOGIN" in line for line in lines), int(lines[-1].split()[1])
@@ -376,14 +380,15 @@ def drivers_are_connected_to_before_it_says_that_it_listens():
 
 def a_lost_driver_comes_back():
     with served() as (server, driver, good):
-        for lose in (driver.lose, lambda: driver.send(b"x" * 100_000)):  # it ends, or sends no LF
+        cut_off = "upsd: drivers cut off, out of memory or by an endless line: 1\n"
+        for lose, is_cut_off in ((driver.lose, False), (lambda: driver.send(b"x" * 100_000), True)):  # it ends, or sends no LF
             with contextlib.suppress(OSError):
                 lose()
             assert comes(lambda: good.ask(GET) != STATUS)  # it may be connected to again by now
             driver.lose()
             driver.accept(TWO)
             assert comes(lambda: good.ask(GET) == STATUS)
-        cut_off = "upsd: drivers cut off, out of memory or by an endless line: 1\n"
+            assert comes(lambda: (cut_off in server.journal()) == is_cut_off), server.journal()  # noqa: B023
         wanted = COME + f"upsd: su: driver lost\n{COME}" * 2
         assert comes(lambda: cut_off in server.journal() and server.journal().replace(cut_off, "", 1) == wanted), server.journal()
 
@@ -408,10 +413,10 @@ def drivers_that_are_not_there_are_tried_again():
         assert comes(lambda: good.ask(asks).count(b'"1"') == 3)
         wanted = [f"upsd: {name}: {news}" for name in "abc" for news in ["data good", "driver connected"]]
         assert comes(lambda: [line for line in sorted(server.journal().splitlines()) if "cannot connect" not in line] == wanted), server.journal()
-        drivers[2].lose()
-        drivers[2].listener.close()  # its file stays, and nobody listens: the reason that there was before
-        assert comes(lambda: server.journal().endswith("upsd: c: driver lost\nupsd: c: " + REFUSED)), server.journal()
-        for driver in drivers:
+        os.unlink(absent)
+        drivers[0].lose()  # once more for the reason that there was before
+        assert comes(lambda: server.journal().endswith("upsd: a: driver lost\nupsd: a: " + NO_FILE)), server.journal()
+        for driver in drivers[1:]:
             driver.close()
 
 
@@ -632,6 +637,20 @@ def nobody_waits_for_slow_readers():
         assert EMULATED or grown < 24 * 64, f"{grown} KB more for 63 slow clients"
 
 
+def all_that_comes_at_one_moment_is_heard():
+    """Of as many clients as there may be, while a newcomer waits."""
+    with served() as (server, _, good):
+        clients = [good, *(server.client() for _ in range(62))]
+        assert all(client.ask(GET) == STATUS for client in clients)
+        server.process.send_signal(signal.SIGSTOP)
+        late = server.client()
+        for client in clients:
+            client.send(GET)
+        server.process.send_signal(signal.SIGCONT)
+        assert all(client.line() == STATUS for client in clients)
+        assert late.ask(GET) == STATUS
+
+
 def a_standing_connection_lists_without_delay():
     with served(many(1000, 10)) as (_, _, good):
         waits = []
@@ -665,6 +684,19 @@ def a_client_that_half_closes_gets_all_whatever_follows_its_end():
                 time.sleep(0.2)
                 got = client.up_to_end()
                 assert got == many_listed(1000, 100) + last, (len(got), got[-20:])
+
+
+def a_client_that_ends_between_a_look_and_a_read_gets_all():
+    """It sends as much as one read takes, so that the next read finds its end while it is owed an answer."""
+    narrow = BENCH.library("narrow.c")
+    with served(many(1000, 100), env={**os.environ, "LD_PRELOAD": narrow, "ENDS_LATE": "1"}) as (server, _, _):
+        client = server.client()
+        server.process.send_signal(signal.SIGSTOP)
+        client.send(b"LIST VAR su\n".ljust(2048, b"\n"))
+        client.wire.shutdown(socket.SHUT_WR)
+        server.process.send_signal(signal.SIGCONT)
+        got = client.up_to_end()
+        assert got == many_listed(1000, 100), len(got)
 
 
 def a_client_that_is_not_watched_is_closed_and_its_place_is_free():
@@ -926,5 +958,6 @@ file("users", USERS)
 RESTLESS_DRIVER, SLOW_DRIVER = Driver(path("restless.sock")), Driver(path("slow.sock"))
 RESTLESS = serving.Server(UPSD, file("restless.conf", f"[slow]\nsocket = {SLOW_DRIVER.path}\n[su]\nsocket = {RESTLESS_DRIVER.path}\n"),
                           "--users", path("users"), "--maxage", str(GREATER_AGE))  # fmt: skip
+atexit.register(RESTLESS.close)
 threading.Thread(target=come_and_go, args=(RESTLESS_DRIVER,), daemon=True).start()
 BENCH.run(globals(), *sys.argv[1:])
