@@ -7,7 +7,7 @@ use Rattle.nutloop.specs.declared.over_mio.pass.Pass.{Pass}
 use Rattle.nutloop.specs.declared.sockets.Ready.{Ready}
 use Rattle.nutloop.specs.declared.sockets.Ready.TheVariants.{Nothing}
 use Rattle.nutloop.specs.OverMio.{GivesTurn, may_at, passing_of, told_of}
-use Rattle.nutloop.specs.Pass.{HasNext, IsOver, again, fresh, goes_on}
+use Rattle.nutloop.specs.Pass.{IsOver, again, fresh, goes_on}
 use Rattle.nutloop.specs.Sockets.{Begins, Knows}
 
 -- A pass that is the next one without a look.

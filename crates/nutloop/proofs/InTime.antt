@@ -2,11 +2,9 @@
 use Rattle.std.proofs.Common.{◌≡◌, ◌⊎◌, ◌+◌, ◌<◌, ◌≤◌, ℕ, zero, suc}
 use Rattle.std.proofs.Common.{Bool, true, false, List, [], ◌∷◌, ◌++◌, length, take}
 use Rattle.std.proofs.Common.{Option, Some, None, refl, sym, subst, ap, ◌∙◌, inl, inr, arith}
-use Rattle.std.proofs.Common.{append-nil}
 use Rattle.std.proofs.lemmas.Bool.{cases_lt}
 use Rattle.std.specs.Prelude.{◌==◌, if◌then◌else◌, nat_lt}
 use Rattle.std.specs.Option.{option_map_or}
-use Rattle.nutwords.specs.SplitLine.{has_lf}
 use Rattle.nutwords.specs.Text.{with_lf}
 use Rattle.nutlisting.specs.declared.byte_queue.TheConstants.{QUEUE_LIMIT}
 use Rattle.nutcore.specs.declared.TheConstants.{HELD_LIMIT}
@@ -17,7 +15,6 @@ use Rattle.nutcore.specs.declared.event.Outcome.TheVariants.{Fed}
 use Rattle.nutcore.specs.declared.event.Peer.{Peer}
 use Rattle.nutcore.specs.declared.event.Peer.TheVariants.{Client, Driver}
 use Rattle.nutcore.specs.Alone.{ALineIsAnsweredAtOnce, IsIdle}
-use Rattle.nutcore.specs.Calls.{room_of}
 use Rattle.nutcore.specs.Headline.{IsBeginning, IsLawful, WhatWasSentAndIsOwedIsTheAnswers}
 use Rattle.nutcore.specs.History.{answers, is_closed, owed, taken}
 use Rattle.nutcore.specs.Pump.{owed_of}
@@ -26,21 +23,20 @@ use Rattle.nutcore.specs.Reply.{reply}
 use Rattle.nutcore.specs.Run.{Run}
 use Rattle.nutcore.specs.Server.{ServerState, session}
 use Rattle.nutcore.specs.Session.{SessionState}
-use Rattle.nutcore.specs.Sound.{ASoundServerIsLawful, EachEventKeepsTheServerSound}
-use Rattle.nutcore.specs.Sound.{EveryRunKeepsTheServerSound, IsSound}
+use Rattle.nutcore.specs.Sound.{ASoundServerIsLawful}
+use Rattle.nutcore.specs.Sound.{EveryRunKeepsTheServerSound}
 use Rattle.nutcore.specs.Step.{Step, offered}
 use Rattle.nutloop.specs.declared.over_mio.pass.Pass.{Pass}
 use Rattle.nutloop.specs.declared.over_mio.pass.Stop.{Stop}
-use Rattle.nutloop.specs.declared.sockets.Ready.{Ready}
-use Rattle.nutloop.specs.declared.sockets.Ready.TheVariants.{Read, Write}
-use Rattle.nutloop.specs.Pass.{HasNext, HasTurn, IsOver, fresh, number}
+use Rattle.nutloop.specs.declared.sockets.Ready.TheVariants.{Read}
+use Rattle.nutloop.specs.Pass.{HasNext, IsOver, fresh, number}
 use Rattle.nutloop.specs.Serving.{Running}
 use Rattle.nutloop.specs.Sockets.{Told}
-use Rattle.nutloop.specs.Turn.{Ask, IsTurn, LoopState, MayAnswer, ask, gave, nobody, reads, room_at}
+use Rattle.nutloop.specs.Turn.{IsTurn, LoopState, MayAnswer, ask, gave, nobody, reads, room_at}
 use Rattle.nutloop.specs.Turn.{row_events, took, write_of}
-use Rattle.nutloop.specs.Fairness.{FromLookToLook, IsOneOf, Turn}
-use Rattle.nutloop.specs.InTime.{AnyTurns, AreHadInOrder, EachLook, IsAnsweredWith, IsHadAt}
-use Rattle.nutloop.specs.InTime.{IsReadyUpToItsTurn, LeadsTo, Reads, TakesAll}
+use Rattle.nutloop.specs.Fairness.{FromLookToLook, Turn}
+use Rattle.nutloop.specs.InTime.{AnyTurns, AreHadInOrder, EachLook, IsHadAt}
+use Rattle.nutloop.specs.InTime.{IsReadyUpToItsTurn, Reads, TakesAll}
 use Rattle.nutloop.specs.InTime.{WhoeverAsksLearnsInTime}
 use Rattle.nutloop.proofs.Fairness.{GoAll, GoesOne, reached}
 use Rattle.nutloop.proofs.Turning.{Between, joined, one, still}

@@ -35,7 +35,7 @@ use Rattle.nutloop.specs.declared.turns.TheConstants.{DRIVER_READ_LIMIT}
 use Rattle.nutloop.specs.Sockets.{Told, Answers, Follows, IsFound, Readies, Reports}
 use Rattle.nutloop.specs.Turn.{Ask, nobody, reads, writes, Answer, unasked, ask, read_of, write_of}
 use Rattle.nutloop.specs.Turn.{MayAnswer, answered, row_events, end_of, calls_behind, Does}
-use Rattle.nutloop.specs.Turn.{failures_by, IsRow, IsTurn, LoopState, around}
+use Rattle.nutloop.specs.Turn.{failures_by, IsRow, IsTurn, around}
 
 pub follows_nothing : (a : Option (List Call)) → Follows a [] a
 follows_nothing None = tt

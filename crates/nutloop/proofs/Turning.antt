@@ -11,9 +11,7 @@ use Rattle.std.proofs.lemmas.Bool.Decides.{nat_tests}
 use Rattle.std.proofs.lemmas.List.Elements.{All-nil, All-cons}
 use Rattle.nutusers.specs.declared.ups_list.UpsId.{UpsId}
 use Rattle.nutcore.specs.declared.event.Event.{Event}
-use Rattle.nutcore.specs.declared.event.Event.TheVariants as event
 use Rattle.nutcore.specs.declared.event.Outcome.{Outcome}
-use Rattle.nutcore.specs.declared.event.Peer.TheVariants.{Driver}
 use Rattle.nutcore.specs.declared.note.Note.{Note}
 use Rattle.nutcore.specs.Session.{SessionState}
 use Rattle.nutcore.specs.Server.{ServerState, session}
@@ -36,7 +34,7 @@ use Rattle.nutloop.specs.declared.sockets.Ready.TheVariants.{Newcomer}
 use Rattle.nutloop.specs.declared.sockets.Call.{Call}
 use Rattle.nutloop.specs.declared.sockets.Call.TheVariants.{Readied}
 use Rattle.nutloop.specs.Sockets.{Follows, Told}
-use Rattle.nutloop.specs.Turn.{ask, answered, row_events, calls_behind_all, AreNoted, IsTurn, LoopState, TurnGives}
+use Rattle.nutloop.specs.Turn.{ask, answered, row_events, calls_behind_all, AreNoted, IsTurn, LoopState}
 use Rattle.nutloop.specs.Serving.{Running, before_turn, seen, Turns, ShownTurns, Ends, IsOneRun, TurnsUpTo}
 use Rattle.nutloop.specs.Moved.{is_client, is_driver, gave_in, took_in, along, fed_in_event}
 use Rattle.nutloop.specs.Moved.{driver_took_in_event, AreMoved, EveryByteIsMovedOnce}

@@ -1,6 +1,7 @@
--- What the sockets over mio have ready, and what they report.
-use Rattle.std.specs.Prelude.{◌≡◌, ℕ, ℤ, Bool, Option, Some, None, if◌then◌else◌, slice_get}
-use Rattle.std.specs.Prelude.{MatchOption}
+-- What the sockets over mio have ready, what they move, and what they report.
+use Rattle.std.specs.Prelude.{◌≡◌, ◌≢◌, ◌⊎◌, ◌==◌, ◌||◌, ℕ, ℤ, Bool, true, false, List, length, take}
+use Rattle.std.specs.Prelude.{Option, Some, None, Result, Ok, MatchOption, if◌then◌else◌, slice_get}
+use Rattle.std.specs.Io.KnownBytes.{Consumes, Keeps}
 use Rattle.std.specs.Option.{option_and_then, option_map_or}
 use Rattle.nutusers.specs.UpsList.{id_at}
 use Rattle.nutusers.specs.declared.ups_list.UpsId.{UpsId}
@@ -10,13 +11,17 @@ use Rattle.nutcore.specs.Server.{ServerState}
 use Rattle.nutcore.specs.DriverHistory.{has_driver}
 use Rattle.nutloop.specs.declared.sockets.Ready.{Ready}
 use Rattle.nutloop.specs.declared.sockets.Ready.TheVariants as ready
+use Rattle.nutloop.specs.declared.sockets.Got.{Got}
+use Rattle.nutloop.specs.declared.sockets.Got.TheVariants.{Bytes, Later}
 use Rattle.nutloop.specs.declared.over_mio.MioSockets.{MioSockets}
+use Rattle.nutloop.specs.declared.over_mio.clients.Client.{Client}
+use Rattle.nutloop.specs.declared.over_mio.socket.Socket.{Socket}
 use Rattle.nutloop.specs.declared.over_mio.pass.Pass.{Pass}
 use Rattle.nutloop.specs.declared.over_mio.pass.Stop.{Stop}
 use Rattle.nutloop.specs.declared.over_mio.pass.Stop.TheVariants as stop
 use Rattle.nutloop.specs.declared.over_mio.pass.Way.{Way}
 use Rattle.nutloop.specs.declared.over_mio.pass.Way.TheVariants.{Read, Write}
-use Rattle.nutloop.specs.Pass.{HasTurn, IsOver, may}
+use Rattle.nutloop.specs.Pass.{HasTurn, IsOver, client_in, may}
 use Rattle.nutloop.specs.Sockets.{Passing, Told}
 
 -- What may be done at a stop of these sockets.
@@ -35,9 +40,8 @@ turn_at s sockets (stop.Driver place way) =
     let u = id_at place in
     if has_driver u s then turn_of (peer.Driver u) way else ready.DriverUp u
 turn_at s sockets (stop.Client place way) =
-    option_map_or
-    (λ slot. option_map_or (λ client. turn_of (peer.Client client.id) way) slot ready.Nothing)
-    (slice_get sockets.clients.items place) ready.Nothing
+    option_map_or (λ client. turn_of (peer.Client client.id) way)
+    (client_in sockets.clients.items place) ready.Nothing
 
 -- A visit of the pass: the turn of a stop, or the pass is over.
 abbrev pub GivesTurn : {R F : Type 0} → ServerState → MioSockets R F → Pass → Option Ready → Pass
@@ -69,3 +73,39 @@ refused sockets = sockets.refusals
 abbrev pub error_of : {R F : Type 0} → MioSockets R F → UpsId → Option ℤ
 error_of sockets u =
     option_and_then (λ driver. driver.error) (slice_get sockets.drivers.items u.place)
+
+-- A read consumes the bytes that it gives, and no others: they are the front of the buffer.
+abbrev pub Gives : {E : Type 0} → Option (List ℕ) → Option (List ℕ) → Result Got E → List ℕ → Type 0
+Gives old new (Ok (Bytes n)) into = Consumes old new (take n into)
+Gives old new _ into = Keeps old new
+
+-- What is known of a socket after a read. There may be more where the bytes filled the buffer, or
+-- the peer has ended, which no event reports again. After `Later` an event reports more, unless the
+-- peer has ended.
+abbrev pub IsKnownAfter : {S E : Type 0} → Result Got E → List ℕ → Socket S → Socket S → Type 0
+IsKnownAfter (Ok (Bytes n)) into old new =
+    (new.ended ≡ old.ended) × (new.readable ≡ (n == length into || new.ended))
+IsKnownAfter (Ok Later) into old new = (new.readable ≡ false) ⊎ (new.ended ≡ true)
+IsKnownAfter _ into old new = new.ended ≡ true
+
+-- The place is this client's.
+abbrev pub is_of : ℕ → List (Option Client) → ℕ → Bool
+is_of c clients place = option_map_or (λ x. x.id == c) (client_in clients place) false
+
+-- The client at a place, if it is another one than this.
+abbrev pub other_in : ℕ → List (Option Client) → ℕ → Option Client
+other_in c clients place =
+    option_and_then (λ x. if x.id == c then None else Some x) (client_in clients place)
+
+-- All other clients stay at their places, as they were.
+abbrev pub OthersStay : ℕ → List (Option Client) → List (Option Client) → Type 0
+OthersStay c old new = (place : ℕ) → other_in c new place ≡ other_in c old place
+
+-- No socket of another peer is touched: of another client, or of the driver of another place.
+abbrev pub TouchesOnly : {R F : Type 0} → Peer → MioSockets R F → MioSockets R F → Type 0
+TouchesOnly (peer.Client c) old new =
+    OthersStay c old.clients.items new.clients.items × (new.drivers ≡ old.drivers)
+TouchesOnly (peer.Driver u) old new =
+    (new.clients ≡ old.clients)
+    × ((place : ℕ) → place ≢ u.place
+    → slice_get new.drivers.items place ≡ slice_get old.drivers.items place)

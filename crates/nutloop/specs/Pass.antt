@@ -1,7 +1,7 @@
 -- One pass over all peers, and what holds between two looks at the system.
 use Rattle.std.specs.Prelude.{◌≡◌, ◌⊎◌, ◌+◌, ◌^◌, ◌-◌, ◌<◌, ◌≤◌, ◌==◌, ◌&&◌, ◌||◌, ℕ, Bool, true, false, not}
 use Rattle.std.specs.Prelude.{List, Option, Some, None, if◌then◌else◌, length, min, nat_lt, slice_get}
-use Rattle.std.specs.Option.{option_map_or}
+use Rattle.std.specs.Option.{option_and_then, option_map_or}
 use Rattle.nutusers.specs.UpsList.{id_at}
 use Rattle.nutusers.specs.declared.ups_list.UpsId.{UpsId}
 use Rattle.nutcore.specs.Server.{ServerState}
@@ -27,10 +27,12 @@ client_may Read x =
 client_may Write x =
     if nat_lt 0 x.standing.offered then x.socket.writable else x.standing.is_finished
 
+-- The client at a place.
+abbrev pub client_in : List (Option Client) → ℕ → Option Client
+client_in clients place = option_and_then (λ slot. slot) (slice_get clients place)
+
 abbrev pub client_at : Way → List (Option Client) → ℕ → Bool
-client_at way clients place =
-    option_map_or (λ slot. option_map_or (client_may way) slot false)
-    (slice_get clients place) false
+client_at way clients place = option_map_or (client_may way) (client_in clients place) false
 
 -- A driver that is connected has a turn to report that, and from then on where there may be
 -- something to read, or it may take what it is owed.

@@ -1,5 +1,5 @@
 -- Serving: turns one after another, up to the first that fails; and what holds of any turns.
-use Rattle.std.specs.Prelude.{◌≡◌, ℕ, zero, suc, Bool, List, [], ◌∷◌, Result, Ok, Err, All, ◌++◌}
+use Rattle.std.specs.Prelude.{◌≡◌, ℕ, zero, suc, Bool, List, [], Result, Ok, Err, All, ◌++◌}
 use Rattle.std.specs.Fn.{Called, Mut}
 use denote.Ref.{Bor}
 use Rattle.nutcore.specs.declared.event.Event.{Event}

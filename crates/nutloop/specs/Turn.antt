@@ -32,7 +32,7 @@ use Rattle.nutloop.specs.declared.fault.LoopFault.{LoopFault}
 use Rattle.nutloop.specs.declared.fault.LoopFault.TheVariants as fault
 use Rattle.nutloop.specs.declared.turns.TheConstants.{DRIVER_READ_LIMIT}
 use Rattle.nutio.specs.Ends.{counted}
-use Rattle.nutloop.specs.Sockets.{Told, Answers, FailsToLook, IsFound, Readies, Reports, none_failed}
+use Rattle.nutloop.specs.Sockets.{Told, Answers, FailsToLook, IsFound, Readies, Reports}
 
 -- The loop as its laws see it: the server, what the sockets report, and what is recorded.
 pub record LoopState : Type 1 where

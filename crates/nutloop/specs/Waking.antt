@@ -1,10 +1,8 @@
 -- How long a look at the system may wait: nothing that is due is slept over.
-use Rattle.std.specs.Prelude.{◌-◌, ◌^◌, ℕ, Bool, false, List, [], ◌∷◌, suc, ◌&&◌, ◌||◌, is_none, is_some}
+use Rattle.std.specs.Prelude.{ℕ, Bool, false, List, [], ◌∷◌, suc, ◌&&◌, ◌||◌, is_none, is_some}
 use Rattle.std.specs.Prelude.{if◌then◌else◌, min, fold, slice_get}
 use Rattle.std.specs.List.{list_any}
 use Rattle.std.specs.Option.{option_and_then}
-use Rattle.nutusers.specs.UpsList.{id_at}
-use Rattle.nutusers.specs.declared.ups_list.UpsId.{UpsId}
 use Rattle.nutcore.specs.Server.{ServerState}
 use Rattle.nutcore.specs.Due.{due_second, never}
 use Rattle.nutloop.specs.declared.over_mio.MioSockets.{MioSockets}

@@ -1,14 +1,16 @@
 //! The sockets over `mio`: clients come over TCP, and drivers are connected to over Unix sockets.
-ghost use Rattle.std.specs.Prelude.{◌≡◌, ◌≤◌, ◌*◌, ◌-◌, ◌∷◌, [], IfOk, IfSome, Some};
+ghost use Rattle.std.specs.Prelude.{◌≡◌, ◌≤◌, ◌*◌, ◌-◌, ◌∷◌, [], IfOk, IfSome, Some, length};
 ghost use Rattle.std.specs.Option.{option_map};
 ghost use Rattle.nutio.specs.Ends.{IsCounted, counted};
-ghost use Rattle.nutloop.specs.Sockets.{Answers, Begins, Knows};
+ghost use Rattle.nutloop.specs.Sockets.{Answers, AtMost, Begins, Knows, ReportsCall, read_call};
 ghost use Rattle.std.specs.Duration.{as_nanos};
 ghost use Rattle.nutloop.specs.Clock.{Ticks, due_tick, tick_in};
 ghost use Rattle.nutloop.specs.Ids.{more_due};
-ghost use Rattle.nutloop.specs.OverMio.{GivesTurn, error_of, passing_of, refused, told_of};
-ghost use Rattle.nutloop.specs.Waking.{is_busy, is_due_soon, wake_second};
-ghost use Rattle.nutloop.specs.declared.sockets.Call.TheVariants.{Refused};
+ghost use Rattle.nutloop.specs.NutBytes.{HandsOn};
+ghost use Rattle.nutloop.specs.OverMio.{GivesTurn, TouchesOnly, error_of, passing_of, refused, told_of};
+ghost use Rattle.nutcore.specs.declared.event.Peer.TheVariants.{Client};
+ghost use Rattle.nutloop.specs.Waking.{wake_second};
+ghost use Rattle.nutloop.specs.declared.sockets.Call.TheVariants.{Named, Refused, Shut, Wrote};
 
 mod clients;
 mod closing;
@@ -22,10 +24,10 @@ mod tokens;
 use crate::Ids;
 use crate::sockets::{Broken, Got, Ready, Sockets};
 use arrayvec::ArrayVec;
-use clients::{Clients, slot_of, take_in};
+use clients::{Clients, place_of, take_in};
 use closing::{CLOSING_LIMIT, Closing, close, first_end, is_any_readable};
 use door::Door;
-use drivers::{Driver, Drivers, connect, is_any_absent, socket_of};
+use drivers::{Driver, Drivers, connect, is_any_absent};
 use mio::{Events, Poll};
 use nut_bytes::keep;
 use nutcore::{ClientId, Peer, Server, Standing, UpsId};
@@ -137,16 +139,6 @@ impl<'a, R: Net + Clock, F: Read + Drop> MioSockets<'a, R, F> {
         [self.refusals, self.cut_off, self.door.failures]
     }
 
-    /// The next id, if one is due.
-    fn next_id(&mut self) -> Option<u128>
-        ensures { self.new ≡ record self.old { ids = self.new.ids } }
-    {
-        match &mut self.ids {
-            Some(ids) => ids.next(),
-            None => None,
-        }
-    }
-
     /// The next turn without a look: what this pass has left, or the next one.
     fn next_turn(&mut self, server: &Server) -> Option<Ready>
         ensures { Knows (told_of self.old) server.now.state result (told_of self.new) }
@@ -227,29 +219,16 @@ impl<'a, R: Net + Clock, F: Read + Drop> MioSockets<'a, R, F> {
     fn wakes_at(&self, server: &Server, soon: bool) -> u64
         ensures { result ≡ wake_second server.now.state soon self.now }
     {
-        if self.is_busy() {
+        if self.pass.had_turn || is_any_readable(self.closing.as_slice()) {
             return 0;
         }
         let due = server.due().min(first_end(self.closing.as_slice()));
-        if self.is_due_soon(server, soon) {
+        let again = self.door.is_tried_again || is_any_absent(self.drivers.as_slice(), server);
+        if soon || again {
             due.min(self.second.saturating_add(1))
         } else {
             due
         }
-    }
-
-    /// Whether somebody had a turn in the pass, or a closing connection may be read.
-    fn is_busy(&self) -> bool
-        ensures { result ≡ is_busy self.now }
-    {
-        self.pass.had_turn || is_any_readable(self.closing.as_slice())
-    }
-
-    /// Whether the look is to end soon, or something is tried again in the next second.
-    fn is_due_soon(&self, server: &Server, soon: bool) -> bool
-        ensures { result ≡ is_due_soon server.now.state soon self.now }
-    {
-        soon || self.door.is_tried_again || is_any_absent(self.drivers.as_slice(), server)
     }
 
     /// Asks the system what is ready, and waits for it up to this second.
@@ -279,8 +258,10 @@ impl<'a, R: Net + Clock, F: Read + Drop> MioSockets<'a, R, F> {
             match Source::of(event.token()) {
                 Source::Listener => self.door.is_knocked_at = true,
                 Source::Driver(place) => {
-                    if let Some(socket) = socket_of(&mut self.drivers, place) {
-                        socket.hear(event);
+                    if let Some(driver) = self.drivers.get_mut(place) {
+                        if let Some(socket) = &mut driver.socket {
+                            socket.hear(event);
+                        }
                     }
                 }
                 Source::Client(place) => {
@@ -294,6 +275,21 @@ impl<'a, R: Net + Clock, F: Read + Drop> MioSockets<'a, R, F> {
                     }
                 }
             }
+        }
+    }
+
+    /// What is handed on of a read: all of it, or what NUT's server keeps where that is asked for.
+    fn kept(&self, p: Peer, read: Result<Got, Broken>, into: &mut [u8]) -> Result<Got, Broken>
+        requires { AtMost read into.old }
+        ensures bound { AtMost result into.new }
+        ensures handed { HandsOn self.now.nut_bytes p read into.old result into.new }
+    {
+        match read {
+            Ok(Got::Bytes(n)) if self.nut_bytes => match keep(p, &mut into[..n]) {
+                0 => Ok(Got::Later),
+                kept => Ok(Got::Bytes(kept)),
+            },
+            other => other,
         }
     }
 
@@ -329,10 +325,12 @@ impl<'a, R: Net + Clock, F: Read + Drop> Sockets for MioSockets<'a, R, F> {
 
     /// An id that is due, or the next turn.
     fn known(&mut self, server: &Server) -> Option<Ready> {
-        match self.next_id() {
-            Some(id) => Some(Ready::Id(id)),
-            None => self.next_turn(server),
+        if let Some(ids) = &mut self.ids {
+            if let Some(id) = ids.next() {
+                return Some(Ready::Id(id));
+            }
         }
+        self.next_turn(server)
     }
 
     fn look(&mut self, server: &Server, soon: bool) -> Result<Ready, Broken> {
@@ -345,7 +343,10 @@ impl<'a, R: Net + Clock, F: Read + Drop> Sockets for MioSockets<'a, R, F> {
         self.count(answer)
     }
 
-    fn name(&mut self, c: ClientId) {
+    fn name(&mut self, c: ClientId)
+        ensures told { Answers (told_of self.old) (Named c ∷ []) (told_of self.new) }
+        ensures only { TouchesOnly (Client c) self.old self.new }
+    {
         if let Some(stream) = self.door.newcomer.take() {
             take_in(&mut self.clients, self.poll.registry(), c, stream);
         }
@@ -359,45 +360,71 @@ impl<'a, R: Net + Clock, F: Read + Drop> Sockets for MioSockets<'a, R, F> {
         self.refusals = self.refusals.saturating_add(1);
     }
 
-    fn read(&mut self, p: Peer, into: &mut [u8]) -> Result<Got, Broken> {
+    fn read(&mut self, p: Peer, into: &mut [u8]) -> Result<Got, Broken>
+        ensures bound { AtMost result into.new }
+        ensures told { ReportsCall (told_of self.old) (read_call p into.new) result
+            (told_of self.new) }
+        ensures only { TouchesOnly p self.old self.new }
+    {
         let answer = match p {
-            Peer::Client(c) => match slot_of(&mut self.clients, self.here, c) {
-                Some(Some(client)) => client.socket.read(into, client.standing.offered > 0),
-                _ => Ok(Got::End),
-            },
-            Peer::Driver(u) => match socket_of(&mut self.drivers, u.place as usize) {
-                Some(socket) => socket.read(into, false),
+            Peer::Client(c) => {
+                let place = place_of(self.clients.as_slice(), self.here, c);
+                match self.clients.get_mut(place) {
+                    Some(slot) => match slot {
+                        Some(client) => client.socket.read(into, client.standing.offered > 0),
+                        None => Ok(Got::End),
+                    },
+                    None => Ok(Got::End),
+                }
+            }
+            Peer::Driver(u) => match self.drivers.get_mut(u.place as usize) {
+                Some(driver) => match &mut driver.socket {
+                    Some(socket) => socket.read(into, false),
+                    None => Ok(Got::End),
+                },
                 None => Ok(Got::End),
             },
         };
-        let answer = match answer {
-            Ok(Got::Bytes(n)) if self.nut_bytes => match keep(p, &mut into[..n]) {
-                0 => Ok(Got::Later),
-                kept => Ok(Got::Bytes(kept)),
-            },
-            other => other,
-        };
+        let answer = self.kept(p, answer, into);
         self.count(answer)
     }
 
-    fn write(&mut self, p: Peer, from: &[u8]) -> Result<usize, Broken> {
+    fn write(&mut self, p: Peer, from: &[u8]) -> Result<usize, Broken>
+        ensures bound { IfOk result (λ n. n ≤ length from.now) }
+        ensures told { ReportsCall (told_of self.old) (Wrote p from.now) result
+            (told_of self.new) }
+        ensures only { TouchesOnly p self.old self.new }
+    {
         let answer = match p {
-            Peer::Client(c) => match slot_of(&mut self.clients, self.here, c) {
-                Some(Some(client)) => client.socket.write(from),
-                _ => Err(Broken),
-            },
-            Peer::Driver(u) => match socket_of(&mut self.drivers, u.place as usize) {
-                Some(socket) => socket.write(from),
+            Peer::Client(c) => {
+                let place = place_of(self.clients.as_slice(), self.here, c);
+                match self.clients.get_mut(place) {
+                    Some(slot) => match slot {
+                        Some(client) => client.socket.write(from),
+                        None => Err(Broken),
+                    },
+                    None => Err(Broken),
+                }
+            }
+            Peer::Driver(u) => match self.drivers.get_mut(u.place as usize) {
+                Some(driver) => match &mut driver.socket {
+                    Some(socket) => socket.write(from),
+                    None => Err(Broken),
+                },
                 None => Err(Broken),
             },
         };
         self.count(answer)
     }
 
-    fn shut(&mut self, p: Peer) {
+    fn shut(&mut self, p: Peer)
+        ensures told { Answers (told_of self.old) (Shut p ∷ []) (told_of self.new) }
+        ensures only { TouchesOnly p self.old self.new }
+    {
         match p {
             Peer::Client(c) => {
-                if let Some(slot) = slot_of(&mut self.clients, self.here, c) {
+                let place = place_of(self.clients.as_slice(), self.here, c);
+                if let Some(slot) = self.clients.get_mut(place) {
                     if let Some(client) = slot.take() {
                         let registry = self.poll.registry();
                         close(&mut self.closing, registry, client.socket, self.second);
@@ -415,9 +442,15 @@ impl<'a, R: Net + Clock, F: Read + Drop> Sockets for MioSockets<'a, R, F> {
         }
     }
 
-    fn had_turn(&mut self, c: ClientId, standing: Standing) {
-        if let Some(Some(client)) = slot_of(&mut self.clients, self.here, c) {
-            client.standing = standing;
+    fn had_turn(&mut self, c: ClientId, standing: Standing)
+        ensures told { Answers (told_of self.old) [] (told_of self.new) }
+        ensures only { TouchesOnly (Client c) self.old self.new }
+    {
+        let place = place_of(self.clients.as_slice(), self.here, c);
+        if let Some(slot) = self.clients.get_mut(place) {
+            if let Some(client) = slot {
+                client.standing = standing;
+            }
         }
     }
 }

@@ -107,11 +107,7 @@ fn open<S: Sockets, R: Record>(
 fn loses_driver(fault: Fault) -> bool
     ensures { result ≡ loses_driver fault }
 {
-    match fault {
-        Fault::LineTooLong => true,
-        Fault::Memory(_) => true,
-        _ => false,
-    }
+    matches!(fault, Fault::LineTooLong | Fault::Memory(_))
 }
 
 /// A driver's bytes are done. Where they lose it, its connection is shut.
@@ -280,10 +276,9 @@ fn ready<S: Sockets, R: Record>(
         return Ok(ready);
     }
     let ended = recorder.pause();
-    match sockets.look(server, soon || ended) {
-        Ok(ready) => Ok(ready),
-        Err(_) => Err(LoopFault::Ready),
-    }
+    sockets
+        .look(server, soon || ended)
+        .map_err(|_| LoopFault::Ready)
 }
 
 /// One turn: asks once what is ready, and does that row: at most one read or write, and at most one

@@ -1,7 +1,7 @@
 //! Clients.
-ghost use Rattle.std.specs.Prelude.{◌≡◌, ◌<◌, ◌≤◌, length, IfSome};
-ghost use Rattle.nutlisting.specs.declared.listing.clients.TheConstants.{SESSION_LIMIT};
-ghost use Rattle.nutloop.specs.Pass.{FirstFrom, client_at, client_may};
+ghost use Rattle.std.specs.Prelude.{◌≡◌, ◌<◌, ℕ, true, length, IfSome};
+ghost use Rattle.nutloop.specs.OverMio.{OthersStay, is_of};
+ghost use Rattle.nutloop.specs.Pass.{FirstFrom, client_at, client_in, client_may};
 
 use super::pass::Way;
 use super::socket::{Socket, both_ways};
@@ -29,15 +29,11 @@ impl Client {
     pub fn may(&self, way: Way) -> bool
         ensures { result ≡ client_may way self.now }
     {
-        let Client {
-            socket,
-            standing,
-            ..
-        } = self;
+        let standing = self.standing;
         match (way, standing.offered > 0) {
-            (Way::Read, true) => socket.readable && standing.room > 0 && !socket.ended,
-            (Way::Read, false) => socket.readable && !standing.is_finished,
-            (Way::Write, true) => socket.writable,
+            (Way::Read, true) => self.socket.readable && standing.room > 0 && !self.socket.ended,
+            (Way::Read, false) => self.socket.readable && !standing.is_finished,
+            (Way::Write, true) => self.socket.writable,
             (Way::Write, false) => standing.is_finished,
         }
     }
@@ -58,59 +54,56 @@ pub(super) fn client_from(clients: &[Option<Client>], from: usize, way: Way) -> 
     None
 }
 
-/// The slot of this client. It is looked for at one place first.
-pub(super) fn slot_of(
-    clients: &mut Clients,
-    here: usize,
-    c: ClientId,
-) -> Option<&mut Option<Client>> {
-    let place = match clients.get(here) {
+/// The place of this client. Where it has none, nobody has the place. It is looked for at one place
+/// first.
+pub(super) fn place_of(clients: &[Option<Client>], here: usize, c: ClientId) -> usize
+    ensures own { IfSome (client_in clients.now result) (λ x. x.id ≡ c) }
+    ensures found { (k : ℕ) → is_of c clients.now k ≡ true → is_of c clients.now result ≡ true }
+{
+    match clients.get(here) {
         Some(Some(client)) if client.id == c => here,
         _ => clients
             .iter()
-            .position(|slot| matches!(slot, Some(client) if client.id == c))?,
-    };
-    clients.get_mut(place)
+            .position(|slot| matches!(slot, Some(client) if client.id == c))
+            .unwrap_or(clients.len()),
+    }
 }
 
-/// The client has the first place that nobody has.
-pub(super) fn take_in(clients: &mut Clients, registry: &Registry, id: ClientId, stream: TcpStream) {
+/// The client has the first place that nobody has. Where its socket can't be registered its
+/// connection is shut, and read at once, which closes it.
+pub(super) fn take_in(clients: &mut Clients, registry: &Registry, id: ClientId, stream: TcpStream)
+    ensures { OthersStay id clients.old.items clients.new.items }
+{
     let place = clients
         .iter()
         .position(|slot| slot.is_none())
         .unwrap_or(clients.len());
-    if place < SESSION_LIMIT {
-        let client = registered(registry, id, stream, place);
-        if place < clients.len() {
-            clients[place] = Some(client);
-        } else {
-            clients.push(Some(client));
-        }
+    if place >= SESSION_LIMIT {
+        return;
     }
-}
-
-/// A client whose socket is registered for this place. Where that fails its connection is shut, and
-/// read at once, which closes it.
-fn registered(registry: &Registry, id: ClientId, mut stream: TcpStream, place: usize) -> Client
-    requires { place < SESSION_LIMIT }
-{
     let token = Source::Client(place).token();
-    let failed = registry.register(&mut stream, token, both_ways()).is_err();
-    if failed {
-        let _ = stream.shutdown(Shutdown::Both);
+    let mut socket = Socket::new(stream);
+    if registry
+        .register(&mut socket.stream, token, both_ways())
+        .is_err()
+    {
+        let _ = socket.stream.shutdown(Shutdown::Both);
+        socket.readable = true;
+        socket.ended = true;
     }
-    Client {
+    let standing = Standing {
+        offered: 0,
+        room: HELD_LIMIT,
+        is_finished: false,
+    };
+    let client = Some(Client {
         id,
-        socket: Socket {
-            stream,
-            readable: failed,
-            writable: true,
-            ended: failed,
-        },
-        standing: Standing {
-            offered: 0,
-            room: HELD_LIMIT,
-            is_finished: false,
-        },
+        socket,
+        standing,
+    });
+    if place < clients.len() {
+        clients[place] = client;
+    } else {
+        clients.push(client);
     }
 }

@@ -115,8 +115,3 @@ pub(super) fn driver_from(
     }
     None
 }
-
-/// The socket of the driver of a place, if it is connected.
-pub(super) fn socket_of(drivers: &mut Drivers, place: usize) -> Option<&mut Socket<UnixStream>> {
-    drivers.get_mut(place)?.socket.as_mut()
-}

@@ -85,31 +85,18 @@ impl Pass {
             self.old result self.new }
     {
         let next = self.next;
+        let from = |first| next.saturating_sub(first);
         let (stop, number) = if next == 0 && is_knocked_at {
             (Stop::Listener, 0)
-        } else if let Some(place) = driver_from(
-            drivers,
-            next.saturating_sub(DRIVER_READS),
-            Way::Read,
-            server,
-        ) {
+        } else if let Some(place) = driver_from(drivers, from(DRIVER_READS), Way::Read, server) {
             self.was_driver_read = true;
             (Stop::Driver(place, Way::Read), DRIVER_READS + place)
-        } else if let Some(place) = driver_from(
-            drivers,
-            next.saturating_sub(DRIVER_WRITES),
-            Way::Write,
-            server,
-        ) {
+        } else if let Some(place) = driver_from(drivers, from(DRIVER_WRITES), Way::Write, server) {
             (Stop::Driver(place, Way::Write), DRIVER_WRITES + place)
-        } else if let Some(place) = client_from(
-            clients,
-            next.saturating_sub(CLIENT_READS),
-            Way::Read,
-        ) {
+        } else if let Some(place) = client_from(clients, from(CLIENT_READS), Way::Read) {
             (Stop::Client(place, Way::Read), CLIENT_READS + place)
         } else {
-            let place = client_from(clients, next.saturating_sub(CLIENT_WRITES), Way::Write)?;
+            let place = client_from(clients, from(CLIENT_WRITES), Way::Write)?;
             (Stop::Client(place, Way::Write), CLIENT_WRITES + place)
         };
         self.next = number + 1;

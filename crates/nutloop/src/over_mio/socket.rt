@@ -1,6 +1,10 @@
 //! A socket of the system.
-ghost use Rattle.std.specs.Prelude.{◌≤◌, length, IfOk};
+ghost use Rattle.std.specs.Prelude.{◌≡◌, ◌≤◌, ◌<◌, ◌==◌, true, false, Ok, length, IfOk, OnErr};
+ghost use Rattle.std.specs.Io.KnownBytes.{IsAtEnd, WriteAppends};
+ghost use Rattle.mio.specs.Interest.{is_readable, is_writable};
+ghost use Rattle.nutloop.specs.OverMio.{Gives, IsKnownAfter};
 ghost use Rattle.nutloop.specs.Sockets.{AtMost};
+ghost use Rattle.nutloop.specs.declared.sockets.Got.TheVariants.{End};
 
 use crate::sockets::{Broken, Got};
 use mio::Interest;
@@ -8,7 +12,10 @@ use mio::event::Event;
 use std::io::{ErrorKind, Read, Write};
 
 /// What the system reports of a peer's socket.
-pub(super) fn both_ways() -> Interest {
+pub(super) fn both_ways() -> Interest
+    ensures reads { is_readable result ≡ true }
+    ensures writes { is_writable result ≡ true }
+{
     Interest::READABLE | Interest::WRITABLE
 }
 
@@ -46,6 +53,12 @@ impl<S: Read + Write> Socket<S> {
     /// would report it.
     pub fn read(&mut self, into: &mut [u8], is_owed: bool) -> Result<Got, Broken>
         ensures bound { AtMost result into.new }
+        ensures bytes { Gives (S.remaining self.old.stream) (S.remaining self.new.stream)
+            result into.new }
+        ensures known { IsKnownAfter result into.new self.old self.new }
+        ensures end { result ≡ Ok End → self.old.ended ≡ false → 0 < length into.new
+            → IsAtEnd (S.remaining self.new.stream) }
+        ensures owed { is_owed ≡ true → result ≡ Ok End → self.old.ended ≡ true }
     {
         match self.stream.read(into) {
             Ok(0) => {
@@ -70,6 +83,11 @@ impl<S: Read + Write> Socket<S> {
     /// Writes a beginning of the bytes.
     pub fn write(&mut self, from: &[u8]) -> Result<usize, Broken>
         ensures bound { IfOk result (λ n. n ≤ length from.now) }
+        ensures bytes { WriteAppends (S.contents self.old.stream) (S.contents self.new.stream)
+            result from.now }
+        ensures known { IfOk result (λ n. 0 < length from.now
+            → self.new.writable ≡ (n == length from.now)) }
+        ensures ended { OnErr result (self.new.ended ≡ true) }
     {
         match self.stream.write(from) {
             Ok(n) => {

@@ -1,4 +1,4 @@
-use Rattle.std.proofs.Common.{sym, subst, rules, ◌∷◌, []}
+use Rattle.std.proofs.Common.{sym, subst, rules}
 use Rattle.nutcore.specs.declared.event.Event.TheVariants.{Open}
 use Rattle.nutcore.specs.declared.event.Outcome.TheVariants.{Opened}
 use Rattle.nutloop.specs.Sockets.{Answers}

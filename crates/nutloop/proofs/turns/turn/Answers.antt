@@ -1,7 +1,7 @@
 use Rattle.std.proofs.Common.{[], ◌∷◌, refl}
 use Rattle.nutcore.specs.declared.event.Event.TheVariants as event
 use Rattle.nutcore.specs.declared.event.Peer.TheVariants.{Client, Driver}
-use Rattle.nutloop.specs.declared.sockets.Ready.TheVariants.{Nothing, Tick, Id, DriverUp, Read, Write, Newcomer}
+use Rattle.nutloop.specs.declared.sockets.Ready.TheVariants.{Nothing, Tick, Id, DriverUp, Read, Write}
 use Rattle.nutloop.proofs.Rows.{row_unasked, row_then, turn_of, turn_of_peer, does_nothing, does_quietly}
 use Rattle.nutloop.proofs.turns.turn.Goals as goal
 
