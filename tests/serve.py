@@ -778,7 +778,7 @@ def a_server_that_is_asked_nothing_does_nothing():
 
 
 def it_sleeps_until_something_is_due():
-    """Beside a driver that only answers, it wakes to ask each third of MAXAGE, 5 s, and for the answer."""
+    """Beside a driver that only answers, it wakes to ask each third of MAXAGE, 5 s, and for the answer, not because it was read."""
     with served() as (server, driver, good):
         time.sleep(1.5)
         before, end = server.wakeups(), time.monotonic() + 10
@@ -787,7 +787,7 @@ def it_sleeps_until_something_is_due():
                 assert driver.line() == b"PING\n"
                 driver.send(b"PONG\n")
         woken = server.wakeups() - before
-        assert 4 <= woken <= 8, f"it woke {woken} times"
+        assert 4 <= woken <= 5, f"it woke {woken} times"
         assert good.ask(GET) == STATUS
 
 

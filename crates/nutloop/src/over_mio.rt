@@ -407,10 +407,7 @@ impl<'a, R: Net + Clock, F: Read + Drop> Sockets for MioSockets<'a, R, F> {
                 }
             }
             Peer::Driver(u) => match self.drivers.get_mut(u.place as usize) {
-                Some(driver) => match &mut driver.socket {
-                    Some(socket) => socket.write(from),
-                    None => Err(Broken),
-                },
+                Some(driver) => driver.write(self.poll.registry(), u, from),
                 None => Err(Broken),
             },
         };

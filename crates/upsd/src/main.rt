@@ -76,15 +76,19 @@ static SERVE_WORDS: [Word; 10] = words! {
     "ups": LongOption("F"), Required, "The list of UPSs, upsd.ups(5); not NUT's ups.conf";
     "users": LongOption("F"), Required, "The users and their rights, upsd.users(5)";
     "vars": LongOption("F"), Free, VARS;
-    "ids": LongOption("F"), Free, "Source of order ids: /dev/urandom [without it: none]";
-    "listen": Preset("A:P", DEFAULT_ADDRESS), Free, "The address for clients";
+    "ids": LongOption("F"), Free,
+        "Source of the ids of tracked orders, such as /dev/urandom [without it: no ids]";
+    "listen": Preset("A:P", DEFAULT_ADDRESS), Free, "The IP address and port for clients";
     "maxage": Parsed("N", ValueParser::Unsigned(MAX_AGE_LEAST as u64, MAX_AGE_MOST as u64)), Free,
-        "Seconds without a report until stale [without it: 15]";
-    "record": LongOption("F"), Free, "Write each event, and passwords, to the new file F";
+        "Seconds without a line from its driver until a UPS is stale [without it: 15]";
+    "record": LongOption("F"), Free,
+        "Writes each event into the new file F, passwords too, for replay";
     "record-limit": Parsed("N", ValueParser::Unsigned(1, RECORD_MIB_MOST)), Free,
         "The most MiB of that file [without it: 64]";
-    "priorities": LongFlag, Free, "Begin each journal line with its priority for systemd";
-    "nut-bytes": LongFlag, Free, "As NUT, skip CR of clients, bytes above 126 of drivers";
+    "priorities": LongFlag, Free,
+        "Begin each line of the journal with its priority, as systemd reads it";
+    "nut-bytes": LongFlag, Free,
+        "Leave out the CR of clients, and bytes above 126 of drivers, as NUT's server does";
 };
 
 /// The words of `replay`.
@@ -96,7 +100,7 @@ static REPLAY_WORDS: [Word; 4] = words! {
 };
 
 /// What the help says of the file of the descriptions.
-const VARS: &str = "Descriptions, upsd.vars(5) [without it: none]";
+const VARS: &str = "Descriptions of variables and commands, upsd.vars(5) [without it: none]";
 
 /// `replay` and its words.
 fn replay_command<'a>(alloc: Global) -> Result<Command<'a>, AllocError>

@@ -1,5 +1,5 @@
 //! Drivers.
-ghost use Rattle.std.specs.Prelude.{◌≡◌, ◌<◌, ◌≤◌, length, IfSome};
+ghost use Rattle.std.specs.Prelude.{◌≡◌, ◌<◌, ◌≤◌, length, IfOk, IfSome};
 ghost use Rattle.nutusers.specs.declared.limits.TheConstants.{UPS_LIMIT};
 ghost use Rattle.nutloop.specs.Pass.{FirstFrom, driver_at};
 ghost use Rattle.nutloop.specs.Waking.{is_any_absent};
@@ -7,9 +7,10 @@ ghost use Rattle.nutloop.specs.Waking.{is_any_absent};
 use super::pass::Way;
 use super::socket::{Socket, both_ways};
 use super::tokens::Source;
+use crate::sockets::Broken;
 use arrayvec::ArrayVec;
-use mio::Registry;
 use mio::net::UnixStream;
+use mio::{Interest, Registry};
 use nutcore::{Server, UpsId};
 use nutusers::UPS_LIMIT;
 use std::io;
@@ -49,6 +50,25 @@ impl Driver {
             Err(error) => self.error = Some(error.raw_os_error().unwrap_or(INVALID_ARGUMENT)),
         }
     }
+
+    /// Writes a beginning of the bytes. Where it isn't all, the system reports from then on when
+    /// more can be written. It would do so at each read of the driver, and wake the server for it.
+    pub fn write(&mut self, registry: &Registry, u: UpsId, from: &[u8]) -> Result<usize, Broken>
+        ensures bound { IfOk result (λ n. n ≤ length from.now) }
+    {
+        let Some(socket) = &mut self.socket else {
+            return Err(Broken);
+        };
+        let taken = socket.write(from)?;
+        let place = u.place as usize;
+        if taken < from.len() && place < UPS_LIMIT {
+            let token = Source::Driver(place).token();
+            registry
+                .reregister(&mut socket.stream, token, both_ways())
+                .map_err(|_| Broken)?;
+        }
+        Ok(taken)
+    }
 }
 
 /// Tries the drivers that aren't connected.
@@ -85,7 +105,7 @@ fn connected<R: Net>(
 {
     let mut stream = UnixStream::connect(rt, path)?;
     let token = Source::Driver(u.place as usize).token();
-    registry.register(&mut stream, token, both_ways())?;
+    registry.register(&mut stream, token, Interest::READABLE)?;
     Ok(Socket::new(stream))
 }
 
