@@ -13,3 +13,4 @@ pub mod Sent
 pub mod Ordered
 pub mod OverRuns
 pub mod OrdersOverRuns
+pub mod Shutdown

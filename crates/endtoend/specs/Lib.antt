@@ -8,3 +8,4 @@ pub mod Ordered
 pub mod Tracked
 pub mod OverRuns
 pub mod OrdersOverRuns
+pub mod Shutdown

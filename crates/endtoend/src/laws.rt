@@ -8,13 +8,15 @@ ghost use Rattle.endtoend.specs.Ordered.{AnOrderThatIsPrintedIsGiven};
 ghost use Rattle.endtoend.specs.Tracked.{ATrackedOrderThatIsPrintedIsGiven, UpscPrintsHowFarAnOrderHasCome, UpscPrintsWhatItsDriverReported};
 ghost use Rattle.endtoend.specs.OverRuns.{UpscPrintsWhatItTook};
 ghost use Rattle.endtoend.specs.OrdersOverRuns.{APrintedOrderIsGivenOnce};
+ghost use Rattle.endtoend.specs.Shutdown.{EveryAnswerShowsAForcedShutdown};
 ghost use Rattle.endtoend.specs.Printed.{UpscPrintsTheVariables, UpscPrintsTheVariable, UpscPrintsHowManyAreLoggedIn, UpscPrintsWhoIsLoggedIn, UpscPrintsTheUpses, UpsrwPrintsTheVariables, UpscmdPrintsTheCommands};
 
 use nutanswer::laws::each_order_answered_ok_is_given;
 use nutcore::laws::{
-    each_is_listed_once, each_run_tracks_its_orders, every_server_is_sound, one_line_is_answered,
-    the_orders_given_are_those_of_the_lines, what_a_driver_set_last_is_held,
-    what_is_counted_is_who_is_there, what_is_listed_is_what_is_held, whatever_is_answered_is_fresh,
+    a_forced_shutdown_reaches_everybody, each_is_listed_once, each_run_tracks_its_orders,
+    every_server_is_sound, one_line_is_answered, the_orders_given_are_those_of_the_lines,
+    what_a_driver_set_last_is_held, what_is_counted_is_who_is_there,
+    what_is_listed_is_what_is_held, whatever_is_answered_is_fresh,
 };
 
 /// What `upsc`, `upsrw` and `upscmd` send is read by the server as the commands that their words
@@ -96,6 +98,18 @@ pub fn upsc_prints_what_the_driver_set_last()
     what_a_driver_set_last_is_held();
     upsc_prints_the_variable();
     upsc_prints_the_variables();
+}
+
+/// After an `FSD` of a usable UPS by right, each answer with its status begins the value with `FSD`,
+/// and `upsc UPS ups.status` prints that.
+pub fn every_answer_shows_a_forced_shutdown()
+    ensures { EveryAnswerShowsAForcedShutdown }
+{
+    a_forced_shutdown_reaches_everybody();
+    what_is_listed_is_what_is_held();
+    each_is_listed_once();
+    whatever_is_answered_is_fresh();
+    upsc_prints_the_variable();
 }
 
 /// If the server answers a request by `ERR` and a word, the client prints nothing and ends with
