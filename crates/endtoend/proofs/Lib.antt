@@ -14,3 +14,4 @@ pub mod Ordered
 pub mod OverRuns
 pub mod OrdersOverRuns
 pub mod Shutdown
+pub mod Pinged

@@ -9,3 +9,4 @@ pub mod Tracked
 pub mod OverRuns
 pub mod OrdersOverRuns
 pub mod Shutdown
+pub mod Pinged

@@ -8,26 +8,26 @@ ghost use Rattle.endtoend.specs.Ordered.{AnOrderThatIsPrintedIsGiven};
 ghost use Rattle.endtoend.specs.Tracked.{ATrackedOrderThatIsPrintedIsGiven, UpscPrintsHowFarAnOrderHasCome, UpscPrintsWhatItsDriverReported};
 ghost use Rattle.endtoend.specs.OverRuns.{UpscPrintsWhatItTook};
 ghost use Rattle.endtoend.specs.OrdersOverRuns.{APrintedOrderIsGivenOnce};
+ghost use Rattle.endtoend.specs.Pinged.{ASilentDriverIsAskedInTime};
 ghost use Rattle.endtoend.specs.Shutdown.{EveryAnswerShowsAForcedShutdown};
 ghost use Rattle.endtoend.specs.Printed.{UpscPrintsTheVariables, UpscPrintsTheVariable, UpscPrintsHowManyAreLoggedIn, UpscPrintsWhoIsLoggedIn, UpscPrintsTheUpses, UpsrwPrintsTheVariables, UpscmdPrintsTheCommands};
 
 use nutanswer::laws::each_order_answered_ok_is_given;
 use nutcore::laws::{
-    a_forced_shutdown_reaches_everybody, each_is_listed_once, each_run_tracks_its_orders,
-    every_server_is_sound, one_line_is_answered, the_orders_given_are_those_of_the_lines,
+    a_client_touches_no_other, a_forced_shutdown_reaches_everybody, each_is_listed_once,
+    each_run_tracks_its_orders, every_server_is_sound, one_line_is_answered,
+    the_orders_given_are_those_of_the_lines, what_a_driver_reported_is_executed,
     what_a_driver_set_last_is_held, what_is_counted_is_who_is_there,
     what_is_listed_is_what_is_held, whatever_is_answered_is_fresh,
 };
 
-/// What `upsc`, `upsrw` and `upscmd` send is read by the server as the commands that their words
-/// ask for.
+/// The server reads what `upsc`, `upsrw` and `upscmd` send as the commands that their words ask for.
 #[tactic(auto, using(crate::proofs::Sent::each_read))]
 pub fn each_request_is_read_as_asked()
     ensures { EachRequestIsReadAsAsked }
 {}
 
-/// A client reads the text of a listing of up to 65,536 items as these items, in order, whatever
-/// follows it.
+/// A client reads a listing's text of up to 65,536 items as these items, in order.
 pub fn a_frame_is_read_as_its_items()
     ensures { AFrameIsReadAsItsItems }
 {}
@@ -48,8 +48,8 @@ pub fn upsc_prints_the_variable()
     what_is_listed_is_what_is_held();
 }
 
-/// `upsc --attached UPS` prints how many sessions are logged in to the UPS, and `upsc -c UPS`
-/// exactly their addresses, in the order of opening.
+/// `upsc --attached UPS` prints how many sessions are logged in to it, and `upsc -c UPS` exactly
+/// their addresses, in the order of opening.
 pub fn upsc_prints_who_is_logged_in()
     ensures number { UpscPrintsHowManyAreLoggedIn }
     ensures addresses { UpscPrintsWhoIsLoggedIn }
@@ -57,7 +57,7 @@ pub fn upsc_prints_who_is_logged_in()
     what_is_counted_is_who_is_there();
 }
 
-/// `upsc -l` and `upsc -L` print exactly one line for each UPS of the server, by rising names.
+/// `upsc -l` and `upsc -L` print exactly one line for each UPS, by rising names.
 pub fn upsc_prints_the_upses()
     ensures { UpscPrintsTheUpses }
 {
@@ -82,14 +82,14 @@ pub fn upscmd_prints_the_commands()
 }
 
 /// `upsc --tracked ID UPS` prints `PENDING`, `SUCCESS`, or `FAILED` and the driver's number. For an
-/// unknown id it prints nothing and ends with `INVALID-ARGUMENT`.
+/// unknown id it ends with `INVALID-ARGUMENT`.
 #[tactic(auto, using(crate::proofs::Progress::prints_progress))]
 pub fn upsc_prints_how_far_an_order_has_come()
     ensures { UpscPrintsHowFarAnOrderHasCome }
 {}
 
-/// From the driver to the printed text: in every run from a new server, `upsc` prints what the
-/// driver's last accepted line on a variable set, only while it is fresh.
+/// From a new server on, `upsc` prints what the driver's last accepted line on a variable set, only
+/// while it is fresh.
 pub fn upsc_prints_what_the_driver_set_last()
     ensures variable { UpscPrintsWhatTheDriverSetLast }
     ensures variables { UpscPrintsAllThatTheDriverSetLast }
@@ -112,8 +112,16 @@ pub fn every_answer_shows_a_forced_shutdown()
     upsc_prints_the_variable();
 }
 
-/// If the server answers a request by `ERR` and a word, the client prints nothing and ends with
-/// that word.
+/// The first tick after a third of MAXAGE without a whole line gives a driver a `PING`, if there is
+/// room: before its data are stale, if ticks come that often.
+pub fn a_silent_driver_is_asked_in_time()
+    ensures { ASilentDriverIsAskedInTime }
+{
+    a_client_touches_no_other();
+    what_a_driver_reported_is_executed();
+}
+
+/// If the server answers `ERR` and a word, the client prints nothing and ends with that word.
 #[tactic(auto, using(crate::proofs::Refused::refusal_ends))]
 pub fn a_refusal_ends_the_job()
     ensures { ARefusalEndsTheJob }
@@ -135,8 +143,8 @@ pub fn a_tracked_order_that_is_printed_is_given()
     each_order_answered_ok_is_given();
 }
 
-/// What `upsc --tracked` prints of that id is `PENDING` up to that driver's first report on it, and
-/// then what this said, until 256 more orders are given.
+/// Of that id, `upsc --tracked` prints `PENDING` up to that driver's first report, and then what
+/// this said, until 256 more orders are given.
 pub fn upsc_prints_what_its_driver_reported()
     ensures { UpscPrintsWhatItsDriverReported }
 {
@@ -153,8 +161,7 @@ pub fn a_printed_order_is_given_once()
     the_orders_given_are_those_of_the_lines();
 }
 
-/// In a run of any clients and drivers, what the client of `upsc` took is a reply that is printed
-/// so.
+/// In any run, what the client of `upsc` took is a reply that is printed so.
 pub fn upsc_prints_what_it_took()
     ensures { UpscPrintsWhatItTook }
 {
