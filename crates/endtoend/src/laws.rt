@@ -4,21 +4,21 @@ ghost use Rattle.endtoend.specs.Frames.{AFrameIsReadAsItsItems};
 ghost use Rattle.endtoend.specs.Served.{EachRequestIsReadAsAsked};
 ghost use Rattle.endtoend.specs.FromDriver.{UpscPrintsWhatTheDriverSetLast, UpscPrintsAllThatTheDriverSetLast};
 ghost use Rattle.endtoend.specs.Refused.{ARefusalEndsTheJob};
-ghost use Rattle.endtoend.specs.Ordered.{AnOrderThatIsPrintedIsGiven};
 ghost use Rattle.endtoend.specs.Tracked.{ATrackedOrderThatIsPrintedIsGiven, UpscPrintsHowFarAnOrderHasCome, UpscPrintsWhatItsDriverReported};
 ghost use Rattle.endtoend.specs.OverRuns.{UpscPrintsWhatItTook};
-ghost use Rattle.endtoend.specs.OrdersOverRuns.{APrintedOrderIsGivenOnce};
+ghost use Rattle.endtoend.specs.OneOrder.{AnOrderIsGivenOnceOrNotAtAll};
 ghost use Rattle.endtoend.specs.Pinged.{ASilentDriverIsAskedInTime};
 ghost use Rattle.endtoend.specs.Shutdown.{EveryAnswerShowsAForcedShutdown};
 ghost use Rattle.endtoend.specs.Printed.{UpscPrintsTheVariables, UpscPrintsTheVariable, UpscPrintsHowManyAreLoggedIn, UpscPrintsWhoIsLoggedIn, UpscPrintsTheUpses, UpsrwPrintsTheVariables, UpscmdPrintsTheCommands};
 
-use nutanswer::laws::each_order_answered_ok_is_given;
 use nutcore::laws::{
-    a_client_touches_no_other, a_forced_shutdown_reaches_everybody, each_is_listed_once,
-    each_run_tracks_its_orders, every_server_is_sound, one_line_is_answered,
-    the_orders_given_are_those_of_the_lines, what_a_driver_reported_is_executed,
-    what_a_driver_set_last_is_held, what_is_counted_is_who_is_there,
-    what_is_listed_is_what_is_held, whatever_is_answered_is_fresh,
+    a_client_touches_no_other, a_forced_shutdown_reaches_everybody, credentials_are_given_by_lines,
+    each_answer_is_timely, each_is_listed_once, each_run_tracks_its_orders, every_server_is_sound,
+    one_line_is_answered, the_orders_given_are_those_of_the_lines,
+    what_a_driver_reported_is_executed, what_a_driver_set_last_is_held,
+    what_is_counted_is_who_is_there, what_is_listed_is_what_is_held,
+    what_was_asked_is_executed_or_held, what_was_sent_and_is_owed_is_the_answers,
+    whatever_is_answered_is_fresh, who_is_over_is_asked_no_more,
 };
 
 /// The server reads what `upsc`, `upsrw` and `upscmd` send as the commands that their words ask for.
@@ -127,21 +127,11 @@ pub fn a_refusal_ends_the_job()
     ensures { ARefusalEndsTheJob }
 {}
 
-/// Where the whole reply comes, `upsrw -s` and `upscmd` print `OK` exactly if the server gave the
-/// order to the driver of that UPS, once, and nothing to any other driver.
-pub fn an_order_that_is_printed_is_given()
-    ensures { AnOrderThatIsPrintedIsGiven }
-{
-    each_order_answered_ok_is_given();
-}
-
-/// If `upsrw --track -s` or `upscmd --track` prints an id, the server gave the order with that id
-/// to that driver, once, and keeps it as pending.
+/// If `upsrw --track -s` or `upscmd --track` prints an id, the server gave the order with it, and
+/// keeps it as pending.
 pub fn a_tracked_order_that_is_printed_is_given()
     ensures { ATrackedOrderThatIsPrintedIsGiven }
-{
-    each_order_answered_ok_is_given();
-}
+{}
 
 /// Of that id, `upsc --tracked` prints `PENDING` up to that driver's first report, and then what
 /// this said, until 256 more orders are given.
@@ -153,11 +143,17 @@ pub fn upsc_prints_what_its_driver_reported()
     upsc_prints_how_far_an_order_has_come();
 }
 
-/// A run that executed the line of a printed order gave it to that driver once, at the line's place
-/// among all orders.
-pub fn a_printed_order_is_given_once()
-    ensures { APrintedOrderIsGivenOnce }
+/// Wherever its connection ends, `upsrw -s` or `upscmd` gives its order at most once: once, by a
+/// user with the right, if it prints `OK` or an id; not at all if it ends with an error word.
+pub fn an_order_is_given_once_or_not_at_all()
+    ensures { AnOrderIsGivenOnceOrNotAtAll }
 {
+    every_server_is_sound();
+    who_is_over_is_asked_no_more();
+    what_was_sent_and_is_owed_is_the_answers();
+    what_was_asked_is_executed_or_held();
+    each_answer_is_timely();
+    credentials_are_given_by_lines();
     the_orders_given_are_those_of_the_lines();
 }
 
