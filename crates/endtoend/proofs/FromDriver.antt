@@ -23,7 +23,7 @@ use Rattle.endtoend.specs.FromDriver.{UpscPrintsWhatTheDriverSetLast, UpscPrints
 use Rattle.endtoend.proofs.Requests.{list_var_read, get_var_read}
 
 -- what holds of each holds of one of them
-all_at : (P : Execution → Type 0) (before after : List Execution) (x : Execution) →
+pub all_at : (P : Execution → Type 0) (before after : List Execution) (x : Execution) →
     All P (before ++ x ∷ after) → P x
 all_at P [] after x all = All-head P x after all
 all_at P (y ∷ before) after x all = all_at P before after x (All-tail P y (before ++ x ∷ after) all)

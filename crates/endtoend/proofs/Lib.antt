@@ -12,4 +12,14 @@ pub mod Progress
 pub mod Sent
 pub mod Ordered
 pub mod OverRuns
-pub mod OrdersOverRuns
+pub mod OneLine
+pub mod Stable
+pub mod Aligned
+pub mod OrderRows
+pub mod Tracked
+pub mod OrderJobs
+pub mod LastNotice
+pub mod RefusedOrder
+pub mod OneOrder
+pub mod Shutdown
+pub mod Pinged

@@ -156,7 +156,7 @@ listing_written kind ups few h = omega (
 )
 
 -- a UPS that is found by a name has the name
-name_kept : (s : Seen) (ups : List ℕ) (known : KnownUps) → ups_named s (Some ups) ≡
+pub name_kept : (s : Seen) (ups : List ℕ) (known : KnownUps) → ups_named s (Some ups) ≡
     Some known → known.name ≡ ups
 name_kept s ups known named = let same : Some ups ≡ Some known.name =
     (a_named_ups_is_seen s (Some ups) known named).name_is in cc same

@@ -39,13 +39,13 @@ use Rattle.endtoend.proofs.Requests.{set_tracking_read}
 use Rattle.endtoend.proofs.Texts.{text_all, text_same}
 
 -- what the words are read as
-name_read : (text : List ℕ) → IfSome (lawful (read_name text)) (λ name. is_name name ≡ true)
+pub name_read : (text : List ℕ) → IfSome (lawful (read_name text)) (λ name. is_name name ≡ true)
 name_read text = lawful_read is_name_byte false NAME_LIMIT text
 
 value_read : (text : List ℕ) → IfSome (lawful (read_value text)) (λ value. is_value value ≡ true)
 value_read text = lawful_read is_lawful true VALUE_LIMIT text
 
-word_read : (most : ℕ) (text : List ℕ) → IfSome (word_of most text) (IsWord most)
+pub word_read : (most : ℕ) (text : List ℕ) → IfSome (word_of most text) (IsWord most)
 word_read most text = by (leb 1 (length text) && leb (length text) most) refl
   where
     read_as : leb 1 (length text) && leb (length text) most ≡ true →
@@ -68,10 +68,10 @@ id_read text = by (read_id text) refl
     by None e = tt
     by (Some id) e = ((read_is_written text id).0 e).0
 
-abbrev IsSetting : List ℕ × List ℕ → Type 0
+abbrev pub IsSetting : List ℕ × List ℕ → Type 0
 IsSetting set = (is_name set.0 ≡ true) × (is_value set.1 ≡ true)
 
-setting_read : (text : List ℕ) → IfSome (setting_of text) IsSetting
+pub setting_read : (text : List ℕ) → IfSome (setting_of text) IsSetting
 setting_read text = by (has_byte 61 text)
   where
     by : (b : Bool) → IfSome (cond b
@@ -121,18 +121,18 @@ of_order by o h =
     of_both _ (All IsReadAsAsked) (λ (o : Target × Request). IsReadAsAsked o.1) AreRead (login_of by) o (login by) h
     (λ before o all read. All-push IsReadAsAsked before o.1 all read)
 
-set_asked : (track : Bool) (ups name value : List ℕ) → is_ups_name ups ≡ true →
+pub set_asked : (track : Bool) (ups name value : List ℕ) → is_ups_name ups ≡ true →
     is_name name ≡ true → is_value value ≡ true → IsReadAsAsked (set_request track ups name value)
 set_asked false ups name value h k v = set_read ups name value h k v
 set_asked true ups name value h k v = set_read ups name value h k v
 
-command_asked : (track : Bool) (ups name : List ℕ) (value : Option (List ℕ)) →
+pub command_asked : (track : Bool) (ups name : List ℕ) (value : Option (List ℕ)) →
     is_ups_name ups ≡ true → is_name name ≡ true →
     IfSome value (λ v. IsTrue (is_value v)) → IsReadAsAsked (command_request track ups name value)
 command_asked false ups name value h k v = command_read ups name value h k v
 command_asked true ups name value h k v = command_read ups name value h k v
 
-if_given : (value : Option (Bor (List ℕ))) →
+pub if_given : (value : Option (Bor (List ℕ))) →
     IfSome (value_of value) (λ v. IfSome v (λ text. IsTrue (is_value text)))
 if_given None = tt
 if_given (Some text) = by (lawful (read_value text.now)) (value_read text.now)

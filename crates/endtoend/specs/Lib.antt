@@ -4,7 +4,8 @@ pub mod Printed
 pub mod Handed
 pub mod FromDriver
 pub mod Refused
-pub mod Ordered
 pub mod Tracked
 pub mod OverRuns
-pub mod OrdersOverRuns
+pub mod OneOrder
+pub mod Shutdown
+pub mod Pinged

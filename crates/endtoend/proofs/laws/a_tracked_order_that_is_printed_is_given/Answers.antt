@@ -1,5 +1,5 @@
-use Rattle.endtoend.proofs.Ordered.{tracked_orders_given}
+use Rattle.endtoend.proofs.Tracked.{tracked_orders_given}
 use Rattle.endtoend.proofs.laws.a_tracked_order_that_is_printed_is_given.Goals as goal
 
 pub returns : goal.returns
-returns c = tracked_orders_given c.each_order_answered_ok_is_given.ensures
+returns c = tracked_orders_given
