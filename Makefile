@@ -2,7 +2,7 @@
 PREFIX = /usr/local
 DESTDIR =
 # The version of all of it, which the programs have too.
-VERSION := $(shell sed -n 's/^pub const VERSION: &str = "\(.*\)";$$/\1/p' crates/nutversion/src/lib.rt)
+VERSION := $(shell sed -n 's/^pub const VERSION: &str = "\(.*\)";$$/\1/p' crates/nutargs/src/version.rt)
 # Where the Debian package is put.
 PACKAGES = .
 # What is installed and packed: the programs for amd64, or after `make arm64` for arm64, crates/NAME/out/NAME.arm64.

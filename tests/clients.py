@@ -404,7 +404,7 @@ def words_server(words):
 
 def check_meanings():
     """Each word that our server refuses by has a meaning."""
-    path = f"{HERE}/../crates/nutparse/src/err_word.rt"
+    path = f"{HERE}/../crates/nutcommand/src/err_word.rt"
     words = set(re.findall(r'b"ERR ([A-Z-]+)\\n",$', text_of(path), re.M)) - {"ALREADY-LOGGED-IN"}
     for word in words:
         row = Row(LIST, f"ERR {word}\n".encode(), ASKED, fault=f"server answered ERR {word}")

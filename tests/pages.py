@@ -61,7 +61,7 @@ def manual_faults():
     for program, sources in ("upsd", MESSAGES), ("upsc", FAULTS):  # upsrw(8) and upscmd(8) lead to upsc(8)
         listed = set(re.findall(rf'^\.B "{program}: (?!server answered ERR|listening on)(.*)"$', text_of(f"man/{program}.8"), re.M))
         yield from (f"man/{program}.8 and the sources differ: {it}" for it in said_by(sources) ^ listed)
-    words = set(re.findall(r'b"ERR ([A-Z-]+)\\n",$', text_of("crates/nutparse/src/err_word.rt"), re.M))
+    words = set(re.findall(r'b"ERR ([A-Z-]+)\\n",$', text_of("crates/nutcommand/src/err_word.rt"), re.M))
     reasons = re.findall(r'#\[error\("(.*)"\)\]$', text_of("crates/nutusers/src/fault.rt"), re.M)
     causes = {f"cause {number}: {it}" for number, it in enumerate(reasons, 1)}
     for page in glob("man/*"):

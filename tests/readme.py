@@ -47,7 +47,7 @@ def the_demonstration_prints_what_is_shown_behind_it():
 
 
 def the_version_stands_in_one_place():
-    version = re.search(r'VERSION: &str = "(\d+\.\d+\.\d+(?:~dev)?)";', text_of("crates/nutversion/src/lib.rt"))[1]
+    version = re.search(r'VERSION: &str = "(\d+\.\d+\.\d+(?:~dev)?)";', text_of("crates/nutargs/src/version.rt"))[1]
     for program in PROGRAMS:
         for word in "--version", "-V":
             assert BENCH.ends(word, program=program)[1] == f"{os.path.basename(program)} {version}\n".encode(), program

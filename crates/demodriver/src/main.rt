@@ -8,8 +8,7 @@ mod ups;
 
 use crate::driver::Driver;
 use crate::server::Server;
-use nutcommand::{Said, hold_standard_streams, words_of};
-use nutversion::VERSION;
+use nutargs::{Said, VERSION, hold_standard_streams, words_of};
 use std::io::ErrorKind;
 use std::os::unix::fs::FileTypeExt;
 use std::os::unix::net::{UnixListener, UnixStream};

@@ -9,7 +9,7 @@ use Rattle.nutdriver.specs.Tree.{TreeState, variable_at}
 use Rattle.nutdriver.specs.LastLine.{TheLastLineDecides}
 use Rattle.nutlisting.specs.Shown.{shown}
 use Rattle.nutanswer.specs.View.{UpsSeen}
-use Rattle.nutparse.specs.declared.command.Command.TheVariants as commands
+use Rattle.nutcommand.specs.declared.command.Command.TheVariants as commands
 use Rattle.nutcore.specs.declared.event.Event.{Event}
 use Rattle.nutcore.specs.declared.event.Outcome.{Outcome}
 use Rattle.nutcore.specs.Server.{ServerState}

@@ -11,8 +11,8 @@ use Rattle.nutwords.specs.Scan.{read_line}
 use Rattle.nutwords.specs.SplitLine.{has_lf}
 use Rattle.nutwords.specs.declared.faults.BadLine.{BadLine}
 use Rattle.nutwords.proofs.PublicLaws.{read_line_is_the_grammar}
-use Rattle.nutparse.specs.Command.{read_command, command_from}
-use Rattle.nutparse.specs.declared.command.Command.{Command}
+use Rattle.nutcommand.specs.Command.{read_command, command_from}
+use Rattle.nutcommand.specs.declared.command.Command.{Command}
 
 lawful-no_lf : (b : ℕ) → is_lawful b ≡ true → (b == 10) ≡ false
 lawful-no_lf b h = grind (arith, nat_tests)

@@ -16,10 +16,10 @@ use Rattle.nutusers.specs.Users.{may}
 use Rattle.nutusers.specs.declared.rights.Right.{Right}
 use Rattle.nutusers.specs.declared.rights.Right.TheVariants as rights
 use Rattle.nutusers.specs.declared.ups_list.UpsId.{UpsId}
-use Rattle.nutparse.specs.ErrWord.{error_line}
-use Rattle.nutparse.specs.declared.command.Command.TheVariants as commands
-use Rattle.nutparse.specs.declared.err_word.ErrWord.{ErrWord}
-use Rattle.nutparse.specs.declared.err_word.ErrWord.TheVariants.{TooLong}
+use Rattle.nutcommand.specs.ErrWord.{error_line}
+use Rattle.nutcommand.specs.declared.command.Command.TheVariants as commands
+use Rattle.nutcommand.specs.declared.err_word.ErrWord.{ErrWord}
+use Rattle.nutcommand.specs.declared.err_word.ErrWord.TheVariants.{TooLong}
 use Rattle.nutanswer.specs.Answer.{ok}
 use Rattle.nutanswer.specs.Orders.{right_to, set_line, instcmd_line}
 use Rattle.nutlisting.specs.declared.outbox.TheConstants.{OWED_LIMIT}

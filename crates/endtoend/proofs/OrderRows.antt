@@ -8,11 +8,11 @@ use Rattle.nuttracking.specs.Id.{id_text}
 use Rattle.nutusers.specs.declared.rights.Right.{Right}
 use Rattle.nutusers.specs.declared.rights.Right.TheVariants as rights
 use Rattle.nutusers.specs.declared.ups_list.UpsId.{UpsId}
-use Rattle.nutparse.specs.Command.{read_command}
-use Rattle.nutparse.specs.ErrWord.{error_line}
-use Rattle.nutparse.specs.declared.command.Command.{Command}
-use Rattle.nutparse.specs.declared.command.Command.TheVariants as commands
-use Rattle.nutparse.specs.declared.err_word.ErrWord.{ErrWord}
+use Rattle.nutcommand.specs.Command.{read_command}
+use Rattle.nutcommand.specs.ErrWord.{error_line}
+use Rattle.nutcommand.specs.declared.command.Command.{Command}
+use Rattle.nutcommand.specs.declared.command.Command.TheVariants as commands
+use Rattle.nutcommand.specs.declared.err_word.ErrWord.{ErrWord}
 use Rattle.nutanswer.specs.Answer.{Answer, one_line, answer_to, text_of_answer, change_of_answer, ok}
 use Rattle.nutanswer.specs.Checks.{◌>>◌, KnownUps, ups_named, already_set_username, already_set_password}
 use Rattle.nutanswer.specs.Orders.{right_to, set_line, instcmd_line, ok_words, order as order_to}

@@ -6,9 +6,9 @@ use Rattle.std.specs.Option.{ok_or}
 use Rattle.nutwords.specs.Frame.{line_of}
 use Rattle.nuttracking.specs.Tracking.{next_id}
 use Rattle.nutusers.specs.declared.rights.Right.TheVariants as rights
-use Rattle.nutparse.specs.declared.command.Command.TheVariants as commands
-use Rattle.nutparse.specs.declared.err_word.ErrWord.{ErrWord}
-use Rattle.nutparse.specs.declared.err_word.ErrWord.TheVariants.{UnknownUps, SetFailed, InstcmdFailed}
+use Rattle.nutcommand.specs.declared.command.Command.TheVariants as commands
+use Rattle.nutcommand.specs.declared.err_word.ErrWord.{ErrWord}
+use Rattle.nutcommand.specs.declared.err_word.ErrWord.TheVariants.{UnknownUps, SetFailed, InstcmdFailed}
 use Rattle.nutanswer.specs.declared.reply.Change.{Change}
 use Rattle.nutanswer.specs.Checks.{◌>>=◌, ◌>>◌, KnownUps, ups_named, unknown_ups, user}
 use Rattle.nutanswer.specs.Checks.{live, var_not_supported, readonly, too_long, invalid_value}

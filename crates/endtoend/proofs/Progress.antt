@@ -26,9 +26,9 @@ use Rattle.nuttracking.proofs.PublicLaws.{ids_are_plain, written_is_read, read_i
 use Rattle.nutlisting.specs.Tracked.{progress_words}
 use Rattle.nutanswer.specs.Answer.{in_one_line, text_of_answer}
 use Rattle.nutanswer.specs.Checks.{◌>>=◌}
-use Rattle.nutparse.specs.Command.{read_command}
-use Rattle.nutparse.specs.declared.command.Command.TheVariants as commands
-use Rattle.nutparse.specs.declared.err_word.ErrWord.TheVariants.{InvalidArgument}
+use Rattle.nutcommand.specs.Command.{read_command}
+use Rattle.nutcommand.specs.declared.command.Command.TheVariants as commands
+use Rattle.nutcommand.specs.declared.err_word.ErrWord.TheVariants.{InvalidArgument}
 use Rattle.nutcore.specs.Server.{ServerState}
 use Rattle.nutcore.specs.Sound.{EveryRunKeepsTheServerSound}
 use Rattle.nutcore.specs.TrackedRuns.{acts, WhatIsTrackedComesOfTheActs}

@@ -6,19 +6,19 @@ use Rattle.std.specs.List.{list_all}
 use Rattle.nutwords.specs.Bytes.{is_bare}
 use Rattle.nutwords.specs.Frame.{line_of}
 use Rattle.nutwords.specs.Listing.{as_it_is, IsWrittenLine}
-use Rattle.nutparse.specs.ErrWord.{error_line, spelling_of}
-use Rattle.nutparse.specs.declared.err_word.ErrWord.{ErrWord}
-use Rattle.nutparse.specs.declared.err_word.ErrWord.TheVariants.{AccessDenied, UnknownUps}
-use Rattle.nutparse.specs.declared.err_word.ErrWord.TheVariants.{VarNotSupported, CmdNotSupported}
-use Rattle.nutparse.specs.declared.err_word.ErrWord.TheVariants.{InvalidArgument, InstcmdFailed}
-use Rattle.nutparse.specs.declared.err_word.ErrWord.TheVariants.{SetFailed, Readonly, TooLong}
-use Rattle.nutparse.specs.declared.err_word.ErrWord.TheVariants.{FeatureNotConfigured}
-use Rattle.nutparse.specs.declared.err_word.ErrWord.TheVariants.{DriverNotConnected, DataStale}
-use Rattle.nutparse.specs.declared.err_word.ErrWord.TheVariants.{AlreadyLoggedIn}
-use Rattle.nutparse.specs.declared.err_word.ErrWord.TheVariants.{AlreadySetPassword}
-use Rattle.nutparse.specs.declared.err_word.ErrWord.TheVariants.{AlreadySetUsername}
-use Rattle.nutparse.specs.declared.err_word.ErrWord.TheVariants.{UsernameRequired, PasswordRequired}
-use Rattle.nutparse.specs.declared.err_word.ErrWord.TheVariants.{UnknownCommand, InvalidValue}
+use Rattle.nutcommand.specs.ErrWord.{error_line, spelling_of}
+use Rattle.nutcommand.specs.declared.err_word.ErrWord.{ErrWord}
+use Rattle.nutcommand.specs.declared.err_word.ErrWord.TheVariants.{AccessDenied, UnknownUps}
+use Rattle.nutcommand.specs.declared.err_word.ErrWord.TheVariants.{VarNotSupported, CmdNotSupported}
+use Rattle.nutcommand.specs.declared.err_word.ErrWord.TheVariants.{InvalidArgument, InstcmdFailed}
+use Rattle.nutcommand.specs.declared.err_word.ErrWord.TheVariants.{SetFailed, Readonly, TooLong}
+use Rattle.nutcommand.specs.declared.err_word.ErrWord.TheVariants.{FeatureNotConfigured}
+use Rattle.nutcommand.specs.declared.err_word.ErrWord.TheVariants.{DriverNotConnected, DataStale}
+use Rattle.nutcommand.specs.declared.err_word.ErrWord.TheVariants.{AlreadyLoggedIn}
+use Rattle.nutcommand.specs.declared.err_word.ErrWord.TheVariants.{AlreadySetPassword}
+use Rattle.nutcommand.specs.declared.err_word.ErrWord.TheVariants.{AlreadySetUsername}
+use Rattle.nutcommand.specs.declared.err_word.ErrWord.TheVariants.{UsernameRequired, PasswordRequired}
+use Rattle.nutcommand.specs.declared.err_word.ErrWord.TheVariants.{UnknownCommand, InvalidValue}
 use Rattle.nutrequest.specs.declared.request.Request.{Request}
 use Rattle.nutrequest.specs.declared.request.Request.TheVariants.{List as ListOf, GetVar}
 use Rattle.nutrequest.specs.declared.request.Request.TheVariants.{GetNumAttach, TrackedSetVar}

@@ -18,10 +18,10 @@ use Rattle.nutwords.specs.declared.faults.BadName.{BadName}
 use Rattle.nutwords.specs.declared.limits.TheConstants.{NAME_LIMIT, UPS_NAME_LIMIT, VALUE_LIMIT}
 use Rattle.nutwords.proofs.PublicLaws.{quoted_is_short, read_line_is_the_grammar}
 use Rattle.nutusers.specs.Credentials.{any_byte}
-use Rattle.nutparse.specs.Command.{read_command, command_from}
-use Rattle.nutparse.specs.declared.command.Command.{Command}
-use Rattle.nutparse.specs.declared.command.Command.TheVariants as commands
-use Rattle.nutparse.specs.declared.err_word.ErrWord.{ErrWord}
+use Rattle.nutcommand.specs.Command.{read_command, command_from}
+use Rattle.nutcommand.specs.declared.command.Command.{Command}
+use Rattle.nutcommand.specs.declared.command.Command.TheVariants as commands
+use Rattle.nutcommand.specs.declared.err_word.ErrWord.{ErrWord}
 use Rattle.nutrequest.specs.Request.{request_words}
 use Rattle.nutrequest.specs.declared.request.Query.TheVariants as queries
 use Rattle.nutrequest.specs.declared.request.Request.{Request}

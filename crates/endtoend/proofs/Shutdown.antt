@@ -12,9 +12,9 @@ use Rattle.nutdriver.specs.Sound.{IsSoundTree}
 use Rattle.nutdriver.specs.Variable.{VariableState}
 use Rattle.nutlisting.specs.Items.{variable_item, is_rw}
 use Rattle.nutlisting.specs.Shown.{shown}
-use Rattle.nutparse.specs.Command.{read_command, asks_data_of}
-use Rattle.nutparse.specs.declared.command.Command.{Command}
-use Rattle.nutparse.specs.declared.command.Command.TheVariants as commands
+use Rattle.nutcommand.specs.Command.{read_command, asks_data_of}
+use Rattle.nutcommand.specs.declared.command.Command.{Command}
+use Rattle.nutcommand.specs.declared.command.Command.TheVariants as commands
 use Rattle.nutanswer.specs.Checks.{KnownUps}
 use Rattle.nutcore.specs.ByRight.{AForcedShutdownReachesEverybody}
 use Rattle.nutcore.specs.FreshRuns.{WasFresh, IsAnsweredFresh, WhateverIsAnsweredIsFresh}

@@ -6,7 +6,7 @@ use Rattle.std.specs.Option.{option_map_or}
 use Rattle.nutwords.specs.Frame.{line_of}
 use Rattle.nutusers.specs.declared.rights.Right.{Right}
 use Rattle.nutusers.specs.declared.rights.Right.TheVariants as rights
-use Rattle.nutparse.specs.Command.{read_command}
+use Rattle.nutcommand.specs.Command.{read_command}
 use Rattle.nutanswer.specs.Orders.{ok_words, right_to, set_line, instcmd_line, order as order_to}
 use Rattle.nutanswer.specs.Rows.{IsIdOfOrder}
 use Rattle.nutanswer.specs.declared.reply.Change.{Change}

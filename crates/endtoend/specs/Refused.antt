@@ -1,8 +1,8 @@
 -- What a client does when the server refuses, or answers `OK`.
 use Rattle.std.specs.Prelude.{◌≡◌, ℕ, Bool, true, false, List, [], ◌∷◌, ◌++◌, codes}
 use Rattle.nutwords.specs.Frame.{line_of}
-use Rattle.nutparse.specs.ErrWord.{error_line, spelling_of}
-use Rattle.nutparse.specs.declared.err_word.ErrWord.{ErrWord}
+use Rattle.nutcommand.specs.ErrWord.{error_line, spelling_of}
+use Rattle.nutcommand.specs.declared.err_word.ErrWord.{ErrWord}
 use Rattle.nutcore.specs.Server.{ServerState}
 use Rattle.nutcore.specs.Reply.{reply}
 use Rattle.nutrequest.specs.declared.faults.ClientFault.TheVariants.{ErrWord as ServerRefused}

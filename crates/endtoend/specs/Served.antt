@@ -5,10 +5,10 @@ use Rattle.nutdriver.specs.Sound.{IsSoundTree}
 use Rattle.nutdriver.specs.Tree.{variable_at}
 use Rattle.nutdriver.specs.Variable.{VariableState}
 use Rattle.nutanswer.specs.Checks.{KnownUps}
-use Rattle.nutparse.specs.Command.{read_command}
+use Rattle.nutcommand.specs.Command.{read_command}
 use Rattle.nutanswer.specs.Rows.{value_given}
-use Rattle.nutparse.specs.declared.command.Command.{Command}
-use Rattle.nutparse.specs.declared.command.Command.TheVariants as commands
+use Rattle.nutcommand.specs.declared.command.Command.{Command}
+use Rattle.nutcommand.specs.declared.command.Command.TheVariants as commands
 use Rattle.nutcore.specs.Listed.{AsksOf}
 use Rattle.nutcore.specs.Server.{ServerState}
 use Rattle.nutrequest.specs.Request.{request_line}

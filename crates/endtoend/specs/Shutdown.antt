@@ -5,8 +5,8 @@ use Rattle.nutwords.specs.Reading.{is_ups_name}
 use Rattle.nutwords.specs.Spelling.{quoted}
 use Rattle.nutwords.specs.Text.{with_lf}
 use Rattle.nutdriver.specs.Variable.{VariableState}
-use Rattle.nutparse.specs.Command.{read_command}
-use Rattle.nutparse.specs.declared.command.Command.TheVariants as commands
+use Rattle.nutcommand.specs.Command.{read_command}
+use Rattle.nutcommand.specs.declared.command.Command.TheVariants as commands
 use Rattle.nutanswer.specs.Checks.{KnownUps}
 use Rattle.nutcore.specs.declared.event.Event.{Event}
 use Rattle.nutcore.specs.declared.event.Outcome.{Outcome}

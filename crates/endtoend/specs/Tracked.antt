@@ -11,9 +11,9 @@ use Rattle.nuttracking.specs.declared.order.Progress.{Progress}
 use Rattle.nutusers.specs.declared.ups_list.UpsId.{UpsId}
 use Rattle.nutlisting.specs.Tracked.{progress_words}
 use Rattle.nutanswer.specs.Checks.{KnownUps, ups_named}
-use Rattle.nutparse.specs.ErrWord.{spelling_of}
+use Rattle.nutcommand.specs.ErrWord.{spelling_of}
 use Rattle.nutanswer.specs.Orders.{set_line, instcmd_line, ok_words}
-use Rattle.nutparse.specs.declared.err_word.ErrWord.TheVariants.{InvalidArgument}
+use Rattle.nutcommand.specs.declared.err_word.ErrWord.TheVariants.{InvalidArgument}
 use Rattle.nutcore.specs.declared.event.Event.{Event}
 use Rattle.nutcore.specs.declared.event.Outcome.{Outcome}
 use Rattle.nutcore.specs.DriverOrders.{order, given_by_line}

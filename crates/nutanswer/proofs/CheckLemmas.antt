@@ -8,10 +8,10 @@ use Rattle.nutdriver.specs.Variable.{VariableState}
 use Rattle.nutdriver.specs.Tree.{variable_at}
 use Rattle.nutusers.specs.Users.{may}
 use Rattle.nutusers.specs.declared.rights.Right.{Right}
-use Rattle.nutparse.specs.declared.err_word.ErrWord.{ErrWord}
-use Rattle.nutparse.specs.declared.err_word.ErrWord.TheVariants.{AccessDenied, UnknownUps}
-use Rattle.nutparse.specs.declared.err_word.ErrWord.TheVariants.{UsernameRequired, PasswordRequired}
-use Rattle.nutparse.specs.declared.err_word.ErrWord.TheVariants.{VarNotSupported}
+use Rattle.nutcommand.specs.declared.err_word.ErrWord.{ErrWord}
+use Rattle.nutcommand.specs.declared.err_word.ErrWord.TheVariants.{AccessDenied, UnknownUps}
+use Rattle.nutcommand.specs.declared.err_word.ErrWord.TheVariants.{UsernameRequired, PasswordRequired}
+use Rattle.nutcommand.specs.declared.err_word.ErrWord.TheVariants.{VarNotSupported}
 use Rattle.nutanswer.specs.View.{Seen, AskerSeen, Readiness, usable, readiness}
 use Rattle.nutanswer.specs.Checks.{◌>>=◌, ◌>>◌, unless, KnownUps, ups_named, unknown_ups}
 use Rattle.nutanswer.specs.Checks.{ready, live, driver_not_connected, data_stale, user}

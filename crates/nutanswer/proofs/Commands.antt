@@ -10,27 +10,27 @@ use Rattle.nutdriver.specs.Variable.{VariableState}
 use Rattle.nutdriver.specs.Tree.{variable_at, has_command}
 use Rattle.nutlisting.specs.Items.{is_rw, ups_item, variable_item, command_item, enum_item, range_item, client_item}
 use Rattle.nutusers.specs.declared.rights.Right.TheVariants as rights
-use Rattle.nutparse.specs.declared.command.Command.{Command}
-use Rattle.nutparse.specs.declared.command.Command.TheVariants.{Username, Password, Login, Logout}
-use Rattle.nutparse.specs.declared.command.Command.TheVariants.{Primary, Fsd, SetVar, InstCmd}
-use Rattle.nutparse.specs.declared.command.Command.TheVariants.{GetVar, GetType, GetDesc}
-use Rattle.nutparse.specs.declared.command.Command.TheVariants.{GetCmdDesc, GetUpsDesc}
-use Rattle.nutparse.specs.declared.command.Command.TheVariants.{GetNumLogins, GetNumAttach, ListUps}
-use Rattle.nutparse.specs.declared.command.Command.TheVariants.{ListVar, ListRw, ListCmd, ListEnum}
-use Rattle.nutparse.specs.declared.command.Command.TheVariants.{ListRange, ListClient, Help, Ver}
-use Rattle.nutparse.specs.declared.command.Command.TheVariants.{NetVer, ProtVer, StartTls}
-use Rattle.nutparse.specs.declared.command.Command.TheVariants.{SetTracking, GetTracking}
-use Rattle.nutparse.specs.declared.command.Command.TheVariants.{GetProgress}
-use Rattle.nutparse.specs.declared.err_word.ErrWord.{ErrWord}
-use Rattle.nutparse.specs.declared.err_word.ErrWord.TheVariants.{AlreadySetUsername}
-use Rattle.nutparse.specs.declared.err_word.ErrWord.TheVariants.{AlreadySetPassword}
-use Rattle.nutparse.specs.declared.err_word.ErrWord.TheVariants.{AlreadyLoggedIn, VarNotSupported}
-use Rattle.nutparse.specs.declared.err_word.ErrWord.TheVariants.{CmdNotSupported, Readonly, TooLong}
-use Rattle.nutparse.specs.declared.err_word.ErrWord.TheVariants.{InvalidValue, SetFailed}
-use Rattle.nutparse.specs.declared.err_word.ErrWord.TheVariants.{InstcmdFailed}
+use Rattle.nutcommand.specs.declared.command.Command.{Command}
+use Rattle.nutcommand.specs.declared.command.Command.TheVariants.{Username, Password, Login, Logout}
+use Rattle.nutcommand.specs.declared.command.Command.TheVariants.{Primary, Fsd, SetVar, InstCmd}
+use Rattle.nutcommand.specs.declared.command.Command.TheVariants.{GetVar, GetType, GetDesc}
+use Rattle.nutcommand.specs.declared.command.Command.TheVariants.{GetCmdDesc, GetUpsDesc}
+use Rattle.nutcommand.specs.declared.command.Command.TheVariants.{GetNumLogins, GetNumAttach, ListUps}
+use Rattle.nutcommand.specs.declared.command.Command.TheVariants.{ListVar, ListRw, ListCmd, ListEnum}
+use Rattle.nutcommand.specs.declared.command.Command.TheVariants.{ListRange, ListClient, Help, Ver}
+use Rattle.nutcommand.specs.declared.command.Command.TheVariants.{NetVer, ProtVer, StartTls}
+use Rattle.nutcommand.specs.declared.command.Command.TheVariants.{SetTracking, GetTracking}
+use Rattle.nutcommand.specs.declared.command.Command.TheVariants.{GetProgress}
+use Rattle.nutcommand.specs.declared.err_word.ErrWord.{ErrWord}
+use Rattle.nutcommand.specs.declared.err_word.ErrWord.TheVariants.{AlreadySetUsername}
+use Rattle.nutcommand.specs.declared.err_word.ErrWord.TheVariants.{AlreadySetPassword}
+use Rattle.nutcommand.specs.declared.err_word.ErrWord.TheVariants.{AlreadyLoggedIn, VarNotSupported}
+use Rattle.nutcommand.specs.declared.err_word.ErrWord.TheVariants.{CmdNotSupported, Readonly, TooLong}
+use Rattle.nutcommand.specs.declared.err_word.ErrWord.TheVariants.{InvalidValue, SetFailed}
+use Rattle.nutcommand.specs.declared.err_word.ErrWord.TheVariants.{InstcmdFailed}
 use Rattle.nutanswer.specs.declared.reply.Change.{Change}
 use Rattle.nutanswer.specs.declared.reply.Change.TheVariants as changes
-use Rattle.nutparse.specs.ErrWord.{error_line}
+use Rattle.nutcommand.specs.ErrWord.{error_line}
 use Rattle.nutanswer.specs.View.{Seen, AskerSeen, usable, readiness}
 use Rattle.nutanswer.specs.Checks.{◌>>=◌, ◌>>◌, KnownUps, ups_named, user, var_not_lawful}
 use Rattle.nutanswer.specs.Checks.{cmd_not_lawful, already_set_username, already_set_password}

@@ -4,10 +4,10 @@ use Rattle.std.proofs.lemmas.Bool.{leb-true}
 use Rattle.std.specs.Prelude.{codes}
 use Rattle.std.specs.List.{list_all, join_with_byte}
 use Rattle.nutwords.specs.Bytes.{is_lawful}
-use Rattle.nutparse.specs.declared.err_word.ErrWord.{ErrWord}
+use Rattle.nutcommand.specs.declared.err_word.ErrWord.{ErrWord}
 use Rattle.nutwords.specs.declared.limits.TheConstants.{LINE_LIMIT}
 use Rattle.nutlisting.specs.Lines.{IsAnswerLine}
-use Rattle.nutparse.specs.ErrWord.{spelling_of}
+use Rattle.nutcommand.specs.ErrWord.{spelling_of}
 use Rattle.nutanswer.specs.Laws.{ErrorLinesAreWhole}
 
 pub error_lawful : (word : ErrWord) →

@@ -3,7 +3,7 @@ use Rattle.std.proofs.Common.{◌≡◌, ◌≤◌, ◌-◌, ℕ, Bool, true, fa
 use Rattle.std.proofs.Common.{Some, Result, Ok, Err, refl, subst, cond, not, ltb, ◌||◌, arith}
 use Rattle.std.proofs.lemmas.Bool.Decides.{nat_tests}
 use Rattle.nutdriver.specs.declared.report.Report.{Report}
-use Rattle.nutparse.specs.declared.err_word.ErrWord.{ErrWord}
+use Rattle.nutcommand.specs.declared.err_word.ErrWord.{ErrWord}
 use Rattle.nutanswer.specs.View.{Seen, readiness, usable, not_connected, stale}
 use Rattle.nutanswer.specs.Checks.{◌>>=◌, ◌>>◌, KnownUps, ups_named, unknown_ups, live}
 use Rattle.nutanswer.specs.Answer.{Answer}

@@ -4,7 +4,7 @@ use Rattle.std.proofs.Common.{None, subst, inl, inr, ◌⊎◌}
 use Rattle.std.specs.Prelude.{slice_get}
 use Rattle.nutdriver.specs.declared.report.Report.{Report}
 use Rattle.nutusers.specs.declared.ups_list.UpsId.{UpsId}
-use Rattle.nutparse.specs.declared.command.Command.{Command}
+use Rattle.nutcommand.specs.declared.command.Command.{Command}
 use Rattle.nutanswer.specs.View.{Seen, AskerSeen, UpsSeen, usable, readiness}
 use Rattle.nutanswer.specs.Checks.{KnownUps, ups_named}
 use Rattle.nutanswer.specs.Rows.{IsSet, IsInstCmd, ComesOf}

@@ -7,8 +7,8 @@ use Rattle.std.specs.List.{list_any}
 use Rattle.std.specs.Option.{option_map_or}
 use Rattle.std.specs.Prelude.{false, ◌&&◌, Result}
 use Rattle.nutusers.specs.Users.{user_named, has_password}
-use Rattle.nutparse.specs.declared.err_word.ErrWord.{ErrWord}
-use Rattle.nutparse.specs.declared.err_word.ErrWord.TheVariants.{AccessDenied}
+use Rattle.nutcommand.specs.declared.err_word.ErrWord.{ErrWord}
+use Rattle.nutcommand.specs.declared.err_word.ErrWord.TheVariants.{AccessDenied}
 use Rattle.nutanswer.specs.View.{Seen, AskerSeen}
 use Rattle.nutanswer.specs.Checks.{◌>>=◌, user, username_required, password_required, unless}
 use Rattle.nutanswer.specs.Orders.{right_to}

@@ -2,10 +2,10 @@
 use Rattle.std.proofs.Common.{arith, ◌≡◌, ℕ, List, Option, Some, Result, Ok, Err, refl, sym}
 use Rattle.std.proofs.Common.{ap, ◌∙◌, subst}
 use Rattle.nutdriver.specs.Variable.{VariableState}
-use Rattle.nutparse.specs.declared.err_word.ErrWord.{ErrWord}
+use Rattle.nutcommand.specs.declared.err_word.ErrWord.{ErrWord}
 use Rattle.nutusers.specs.declared.rights.Right.TheVariants.{Set}
 use Rattle.nutanswer.specs.View.{Seen, AskerSeen}
-use Rattle.nutparse.specs.declared.command.Command.TheVariants.{SetVar, InstCmd}
+use Rattle.nutcommand.specs.declared.command.Command.TheVariants.{SetVar, InstCmd}
 use Rattle.nutanswer.specs.Answer.{Answer, answer_to, one_line}
 use Rattle.nutanswer.specs.Checks.{◌>>=◌, ◌>>◌, KnownUps, user, unknown_ups, live}
 use Rattle.nutanswer.specs.Checks.{var_not_supported, cmd_not_supported, readonly, too_long}
@@ -15,7 +15,7 @@ use Rattle.nutanswer.specs.Orders.{set_line, instcmd_line, instcmd_right, order,
 use Rattle.nutanswer.specs.Promises.{live_ups, live_variable, live_command, settable, Gives, GivesLine, GivesListing}
 use Rattle.nutlisting.specs.Items.{ListingState}
 use Rattle.nutanswer.specs.declared.reply.Reply.{Reply}
-use Rattle.nutparse.specs.declared.err_word.ErrWord.TheVariants.{SetFailed, InstcmdFailed}
+use Rattle.nutcommand.specs.declared.err_word.ErrWord.TheVariants.{SetFailed, InstcmdFailed}
 use Rattle.std.specs.Prelude.{◌≤◌, ◌<◌, length}
 use Rattle.std.proofs.lemmas.Bool.{le-leb, lt-leb}
 

@@ -38,14 +38,14 @@ use Rattle.nutlisting.specs.Lawful.{IsLawfulText, IsSoundEntry}
 use Rattle.nutlisting.specs.Items.{ups_item, variable_item, command_item, enum_item, range_item, client_item}
 use Rattle.nutlisting.specs.Shown.{shown, description_of, text_or_unavailable, ups_description}
 use Rattle.nutlisting.proofs.PublicLaws.{ids_are_lawful, texts_are_lawful, lawful_words_are_a_line, sound_entries}
-use Rattle.nutparse.specs.declared.err_word.ErrWord.{ErrWord}
-use Rattle.nutparse.specs.declared.err_word.ErrWord.TheVariants.{VarNotSupported, InvalidArgument}
-use Rattle.nutparse.specs.ErrWord.{spelling_of}
+use Rattle.nutcommand.specs.declared.err_word.ErrWord.{ErrWord}
+use Rattle.nutcommand.specs.declared.err_word.ErrWord.TheVariants.{VarNotSupported, InvalidArgument}
+use Rattle.nutcommand.specs.ErrWord.{spelling_of}
 use Rattle.nutanswer.specs.View.{Seen, UpsSeen, ClientSeen, is_logged_in, login_count, addresses_at}
 use Rattle.nutanswer.specs.Checks.{KnownUps, ups_named, variable_named, var_not_supported, unknown_id}
 use Rattle.nutanswer.specs.Orders.{ok_words, on_or_off_word}
 use Rattle.nutanswer.specs.Answer.{Answer, ok, text_of_answer, description_at}
-use Rattle.nutparse.specs.Command.{HasLawfulName, HasLawfulUpsName}
+use Rattle.nutcommand.specs.Command.{HasLawfulName, HasLawfulUpsName}
 use Rattle.nutanswer.specs.Laws.{IsLawfulSeen}
 use Rattle.nutanswer.proofs.ErrorLemmas.{error_lawful}
 use Rattle.nutanswer.proofs.Named.{named_is_seen}

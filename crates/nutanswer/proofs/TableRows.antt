@@ -9,8 +9,8 @@ use Rattle.nutwords.specs.Frame.{line_of}
 use Rattle.nutdriver.specs.Variable.{VariableState}
 use Rattle.nutlisting.specs.Items.{ListingState, text_of}
 use Rattle.nutusers.specs.declared.ups_list.UpsId.{UpsId}
-use Rattle.nutparse.specs.declared.command.Command.{Command}
-use Rattle.nutparse.specs.declared.err_word.ErrWord.{ErrWord}
+use Rattle.nutcommand.specs.declared.command.Command.{Command}
+use Rattle.nutcommand.specs.declared.err_word.ErrWord.{ErrWord}
 use Rattle.nutanswer.specs.declared.reply.Change.{Change}
 use Rattle.nutanswer.specs.declared.reply.Change.TheVariants.{Nothing}
 use Rattle.nutanswer.specs.View.{Seen, AskerSeen}
@@ -18,7 +18,7 @@ use Rattle.nutanswer.specs.Checks.{◌>>=◌, ◌>>◌, KnownUps, ups_named, unk
 use Rattle.nutanswer.specs.Orders.{order, ok_words}
 use Rattle.nutanswer.specs.Answer.{Answer, one_line, listing, listing_of_clients, in_one_line}
 use Rattle.nutanswer.specs.Answer.{answer_to, change_of_answer, text_of_answer}
-use Rattle.nutparse.specs.Command.{IsLawfulCommand}
+use Rattle.nutcommand.specs.Command.{IsLawfulCommand}
 use Rattle.nutanswer.specs.Laws.{IsLawfulSeen, begins_with_ok, is_ok_line}
 use Rattle.nutanswer.specs.Rows.{IsSet, IsInstCmd, ComesOf}
 use Rattle.nutanswer.proofs.CheckLemmas as checks

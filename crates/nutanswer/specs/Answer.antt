@@ -10,26 +10,26 @@ use Rattle.nutwords.specs.Spelling.{quoted}
 use Rattle.nutusers.specs.Descriptions.{text_at}
 use Rattle.nutusers.specs.declared.rights.Right.TheVariants as rights
 use Rattle.nutusers.specs.declared.ups_list.UpsId.{UpsId}
-use Rattle.nutparse.specs.declared.command.Command.{Command}
-use Rattle.nutparse.specs.declared.command.Command.TheVariants.{Username, Password, Login, Logout}
-use Rattle.nutparse.specs.declared.command.Command.TheVariants.{Primary, Fsd, SetVar, InstCmd}
-use Rattle.nutparse.specs.declared.command.Command.TheVariants.{GetVar, GetType, GetDesc}
-use Rattle.nutparse.specs.declared.command.Command.TheVariants.{GetCmdDesc, GetUpsDesc}
-use Rattle.nutparse.specs.declared.command.Command.TheVariants.{GetNumLogins, GetNumAttach}
-use Rattle.nutparse.specs.declared.command.Command.TheVariants.{ListUps, ListVar}
-use Rattle.nutparse.specs.declared.command.Command.TheVariants.{ListRw, ListCmd, ListEnum}
-use Rattle.nutparse.specs.declared.command.Command.TheVariants.{ListRange, ListClient, Help, Ver}
-use Rattle.nutparse.specs.declared.command.Command.TheVariants.{NetVer, ProtVer, StartTls}
-use Rattle.nutparse.specs.declared.command.Command.TheVariants.{SetTracking, GetTracking}
-use Rattle.nutparse.specs.declared.command.Command.TheVariants.{GetProgress}
-use Rattle.nutparse.specs.declared.err_word.ErrWord.{ErrWord}
-use Rattle.nutparse.specs.declared.err_word.ErrWord.TheVariants.{FeatureNotConfigured}
-use Rattle.nutparse.specs.declared.err_word.ErrWord.TheVariants.{SetFailed, InstcmdFailed}
+use Rattle.nutcommand.specs.declared.command.Command.{Command}
+use Rattle.nutcommand.specs.declared.command.Command.TheVariants.{Username, Password, Login, Logout}
+use Rattle.nutcommand.specs.declared.command.Command.TheVariants.{Primary, Fsd, SetVar, InstCmd}
+use Rattle.nutcommand.specs.declared.command.Command.TheVariants.{GetVar, GetType, GetDesc}
+use Rattle.nutcommand.specs.declared.command.Command.TheVariants.{GetCmdDesc, GetUpsDesc}
+use Rattle.nutcommand.specs.declared.command.Command.TheVariants.{GetNumLogins, GetNumAttach}
+use Rattle.nutcommand.specs.declared.command.Command.TheVariants.{ListUps, ListVar}
+use Rattle.nutcommand.specs.declared.command.Command.TheVariants.{ListRw, ListCmd, ListEnum}
+use Rattle.nutcommand.specs.declared.command.Command.TheVariants.{ListRange, ListClient, Help, Ver}
+use Rattle.nutcommand.specs.declared.command.Command.TheVariants.{NetVer, ProtVer, StartTls}
+use Rattle.nutcommand.specs.declared.command.Command.TheVariants.{SetTracking, GetTracking}
+use Rattle.nutcommand.specs.declared.command.Command.TheVariants.{GetProgress}
+use Rattle.nutcommand.specs.declared.err_word.ErrWord.{ErrWord}
+use Rattle.nutcommand.specs.declared.err_word.ErrWord.TheVariants.{FeatureNotConfigured}
+use Rattle.nutcommand.specs.declared.err_word.ErrWord.TheVariants.{SetFailed, InstcmdFailed}
 use Rattle.nutanswer.specs.declared.reply.Change.{Change}
 use Rattle.nutanswer.specs.declared.reply.Change.TheVariants as changes
 use Rattle.nutanswer.specs.declared.reply.Reply.{Reply}
 use Rattle.nutanswer.specs.declared.reply.Reply.TheVariants.{Refused, One, Many, Clients}
-use Rattle.nutparse.specs.ErrWord.{error_line}
+use Rattle.nutcommand.specs.ErrWord.{error_line}
 use Rattle.nutlisting.specs.Lines.{IsWholeLine}
 use Rattle.nutanswer.specs.View.{Seen, AskerSeen, login_count, addresses_at}
 use Rattle.nutlisting.specs.Shown.{shown, description_of, text_or_unavailable}

@@ -11,17 +11,17 @@ use Rattle.nutusers.specs.UpsList.{place_of, id_at}
 use Rattle.nutusers.specs.Users.{may}
 use Rattle.nutusers.specs.declared.rights.Right.{Right}
 use Rattle.nutusers.specs.declared.ups_list.UpsId.{UpsId}
-use Rattle.nutparse.specs.declared.err_word.ErrWord.{ErrWord}
-use Rattle.nutparse.specs.declared.err_word.ErrWord.TheVariants.{AccessDenied, UnknownUps}
-use Rattle.nutparse.specs.declared.err_word.ErrWord.TheVariants.{DriverNotConnected, DataStale}
-use Rattle.nutparse.specs.declared.err_word.ErrWord.TheVariants.{VarNotSupported, CmdNotSupported}
-use Rattle.nutparse.specs.declared.err_word.ErrWord.TheVariants.{InvalidArgument, AlreadyLoggedIn}
-use Rattle.nutparse.specs.declared.err_word.ErrWord.TheVariants.{AlreadySetPassword}
-use Rattle.nutparse.specs.declared.err_word.ErrWord.TheVariants.{AlreadySetUsername}
-use Rattle.nutparse.specs.declared.err_word.ErrWord.TheVariants.{UsernameRequired}
-use Rattle.nutparse.specs.declared.err_word.ErrWord.TheVariants.{PasswordRequired, Readonly}
-use Rattle.nutparse.specs.declared.err_word.ErrWord.TheVariants.{TooLong, InvalidValue, SetFailed}
-use Rattle.nutparse.specs.declared.err_word.ErrWord.TheVariants.{InstcmdFailed}
+use Rattle.nutcommand.specs.declared.err_word.ErrWord.{ErrWord}
+use Rattle.nutcommand.specs.declared.err_word.ErrWord.TheVariants.{AccessDenied, UnknownUps}
+use Rattle.nutcommand.specs.declared.err_word.ErrWord.TheVariants.{DriverNotConnected, DataStale}
+use Rattle.nutcommand.specs.declared.err_word.ErrWord.TheVariants.{VarNotSupported, CmdNotSupported}
+use Rattle.nutcommand.specs.declared.err_word.ErrWord.TheVariants.{InvalidArgument, AlreadyLoggedIn}
+use Rattle.nutcommand.specs.declared.err_word.ErrWord.TheVariants.{AlreadySetPassword}
+use Rattle.nutcommand.specs.declared.err_word.ErrWord.TheVariants.{AlreadySetUsername}
+use Rattle.nutcommand.specs.declared.err_word.ErrWord.TheVariants.{UsernameRequired}
+use Rattle.nutcommand.specs.declared.err_word.ErrWord.TheVariants.{PasswordRequired, Readonly}
+use Rattle.nutcommand.specs.declared.err_word.ErrWord.TheVariants.{TooLong, InvalidValue, SetFailed}
+use Rattle.nutcommand.specs.declared.err_word.ErrWord.TheVariants.{InstcmdFailed}
 use Rattle.nutanswer.specs.View.{Seen, AskerSeen, UpsSeen, Readiness, not_connected, stale, usable}
 use Rattle.nutanswer.specs.View.{readiness}
 use Rattle.nutanswer.specs.Orders.{is_short_enough, is_listed, is_in_ranges}

@@ -9,18 +9,18 @@ use Rattle.nutdriver.specs.Sound.{IsSoundTree}
 use Rattle.nutusers.specs.UpsList.{IsLawfulUps, place_of}
 use Rattle.nutusers.specs.Descriptions.{AreLawful}
 use Rattle.nutusers.specs.declared.ups_list.UpsId.{UpsId}
-use Rattle.nutparse.specs.declared.command.Command.{Command}
-use Rattle.nutparse.specs.declared.err_word.ErrWord.{ErrWord}
+use Rattle.nutcommand.specs.declared.command.Command.{Command}
+use Rattle.nutcommand.specs.declared.err_word.ErrWord.{ErrWord}
 use Rattle.nutanswer.specs.declared.reply.Change.TheVariants.{Nothing}
 use Rattle.nutlisting.specs.Lines.{IsWholeLine}
 use Rattle.nutlisting.specs.declared.listing.clients.TheConstants.{SESSION_LIMIT}
-use Rattle.nutparse.specs.ErrWord.{error_line}
+use Rattle.nutcommand.specs.ErrWord.{error_line}
 use Rattle.nutanswer.specs.View.{Seen, AskerSeen, UpsSeen}
 use Rattle.nutanswer.specs.Checks.{KnownUps, ups_named}
 use Rattle.nutanswer.specs.Orders.{order, set_line, instcmd_line}
 use Rattle.nutanswer.specs.Answer.{Answer, one_line, listing, listing_of_clients, answer_to}
 use Rattle.nutanswer.specs.Answer.{change_of_answer, text_of_answer}
-use Rattle.nutparse.specs.Command.{asks_data_of, IsLawfulCommand}
+use Rattle.nutcommand.specs.Command.{asks_data_of, IsLawfulCommand}
 
 -- The first word is OK.
 abbrev pub begins_with_ok : List (List ℕ) → Bool

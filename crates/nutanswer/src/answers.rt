@@ -8,7 +8,7 @@ ghost use Rattle.nutlisting.specs.declared.lines.TheConstants.{KIND_LIMIT};
 ghost use Rattle.nutanswer.specs.View.{Seen, asker_seen};
 ghost use Rattle.nutanswer.specs.Answer.{answer_to, shares_version, in_one_line, count_of_logins, one_line, ok, Answer, IsReply};
 ghost use Rattle.nutanswer.specs.Promises.{CarriesAnswer, Gives, GivesLine, GivesListing, row};
-ghost use Rattle.nutparse.specs.declared.command.Command.TheVariants.{GetVar, GetType, GetDesc, GetCmdDesc, GetUpsDesc, ListUps, ListVar, ListRw, ListCmd, ListEnum, ListRange};
+ghost use Rattle.nutcommand.specs.declared.command.Command.TheVariants.{GetVar, GetType, GetDesc, GetCmdDesc, GetUpsDesc, ListUps, ListVar, ListRw, ListCmd, ListEnum, ListRange};
 
 mod orders;
 mod session;
@@ -18,7 +18,7 @@ use nutlisting::{
     Listing, count_line_into, described, type_line_into, ups_line_into, value_line_into,
     variable_line_into,
 };
-use nutparse::{Checked, Command, ErrWord, NameWord, UpsWord};
+use nutcommand::{Checked, Command, ErrWord, NameWord, UpsWord};
 use nutwords::Line;
 use std::alloc::AllocError;
 

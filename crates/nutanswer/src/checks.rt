@@ -8,7 +8,7 @@ ghost use Rattle.nutanswer.specs.Promises.{known_ups, known_variable, known_comm
 
 use crate::{Asker, Peers, UpsView, View};
 use nutdriver::{EnumValue, Range, Variable, read_number};
-use nutparse::{Checked, ErrWord, UpsWord, ValueWord};
+use nutcommand::{Checked, ErrWord, UpsWord, ValueWord};
 use nutusers::{Right, UpsId};
 use nutwords::{Name, UpsName, Value};
 

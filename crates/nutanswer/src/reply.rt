@@ -2,7 +2,7 @@
 ghost use Rattle.std.specs.Prelude.{◌≡◌};
 
 use crate::Listing;
-use nutparse::ErrWord;
+use nutcommand::ErrWord;
 use nutusers::{Password, UpsId, UserName};
 use nutwords::{Line, UpsName};
 use std::marker::Model;

@@ -3,7 +3,7 @@ use Rattle.std.specs.Prelude.{◌≡◌, ◌≢◌, ◌≤◌, ℕ, List, None, 
 use Rattle.clap.specs.Words.{App, HasMatchesOf, kind_of}
 use Rattle.clap.specs.declared.error.Error.{Error}
 use Rattle.clap.specs.declared.parser.matches.ArgMatches.{ArgMatches}
-use Rattle.nutcommand.specs.Refusal.{refusal_status}
+use Rattle.nutargs.specs.Refusal.{refusal_status}
 use Rattle.nutclient.specs.Job.{job_of}
 use Rattle.nutclient.specs.declared.given.Given.{Given}
 use Rattle.nutclient.specs.declared.limits.TheConstants.{WORD_FAULT}

@@ -3,11 +3,11 @@ ghost use Rattle.std.specs.Prelude.{◌≡◌, List, map};
 ghost use Rattle.clap.specs.declared.parser.matches.ArgMatches.{ArgMatches};
 ghost use Rattle.nutclient.specs.declared.given.Given.{Given};
 ghost use Rattle.nutclient.specs.declared.program.Program.{Program};
-ghost use Rattle.nutcommand.specs.Words.{Row, row_of};
+ghost use Rattle.nutargs.specs.Words.{Row, row_of};
 
 use crate::{Given, Program};
 use clap::ArgMatches;
-use nutcommand::Word;
+use nutargs::Word;
 
 /// A program of the three.
 pub trait Client {

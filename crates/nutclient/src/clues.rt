@@ -7,7 +7,7 @@ use crate::Job;
 use crate::limits::{WAIT_SECONDS, WHY_LIMIT};
 use crate::meaning::meaning;
 use arrayvec::ArrayString;
-use nutcommand::Said;
+use nutargs::Said;
 use nutrequest::{ClientFault, Request};
 use std::cell::Cell;
 use std::fmt::{self, Write};

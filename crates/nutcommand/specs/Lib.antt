@@ -1,2 +1,3 @@
-pub mod Words
-pub mod Refusal
+pub mod ErrWord
+pub mod Command
+pub mod Promises

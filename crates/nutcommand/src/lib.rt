@@ -1,13 +1,10 @@
-//! How the programs begin: with their standard streams, and with the words of their command lines.
-//! And how they end where these are refused, or where the system refuses a call.
+//! What a client asks for (RFC 9271): its lines as commands, and the words by which they are
+//! refused.
 #![tactic(auto)]
 
-mod refusal;
-mod said;
-mod standard;
-mod words;
+mod command;
+mod err_word;
+pub mod laws;
 
-pub use refusal::print_refusal;
-pub use said::Said;
-pub use standard::hold_standard_streams;
-pub use words::{Bond, Form, Word, with_words, words_of};
+pub use command::{Command, NameWord, PasswordWord, TextWord, UpsWord, UserWord, ValueWord};
+pub use err_word::{Checked, ErrWord};

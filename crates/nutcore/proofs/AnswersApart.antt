@@ -12,14 +12,14 @@ use Rattle.nutwords.specs.Natural.{is_empty}
 use Rattle.nutwords.proofs.PublicLaws.{first_answers_are_the_first, answers_are_cut_in_one_way}
 use Rattle.nutdriver.specs.Sound.{IsSoundTree, EachLineKeepsTheTreeSound, ReadLinesAreLawful}
 use Rattle.nutdriver.specs.Tree.{empty_tree}
-use Rattle.nutparse.specs.declared.command.Command.{Command}
-use Rattle.nutparse.specs.declared.err_word.ErrWord.{ErrWord}
-use Rattle.nutparse.specs.declared.err_word.ErrWord.TheVariants.{TooLong}
-use Rattle.nutparse.specs.Command.{read_command, IsLawfulReading}
+use Rattle.nutcommand.specs.declared.command.Command.{Command}
+use Rattle.nutcommand.specs.declared.err_word.ErrWord.{ErrWord}
+use Rattle.nutcommand.specs.declared.err_word.ErrWord.TheVariants.{TooLong}
+use Rattle.nutcommand.specs.Command.{read_command, IsLawfulReading}
 use Rattle.nutanswer.specs.Laws.{IsLawfulSeen}
 use Rattle.nutanswer.specs.View.{UpsSeen, ClientSeen}
 use Rattle.nutanswer.proofs.PublicLaws.{each_answer_is_a_line_or_a_listing, each_error_is_a_line}
-use Rattle.nutparse.proofs.PublicLaws.{what_is_read_is_lawful}
+use Rattle.nutcommand.proofs.PublicLaws.{what_is_read_is_lawful}
 use Rattle.nutcore.proofs.Common.{length-map, Event, Outcome, UpsState, ServerState, Run}
 use Rattle.nutcore.specs.Step.{with_input, without_output}
 use Rattle.nutcore.specs.declared.event.Event.TheVariants.{Feed, Took}

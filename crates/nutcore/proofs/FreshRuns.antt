@@ -13,10 +13,10 @@ use Rattle.nutdriver.specs.declared.report.Report.{Report}
 use Rattle.nutdriver.specs.Sound.{IsSoundTree}
 use Rattle.nutdriver.specs.LastLine.{TheLastLineOnAVariableDecidesIt}
 use Rattle.nutdriver.specs.Report.{Heard, connected_report, after_line, after_heard}
-use Rattle.nutparse.specs.declared.command.Command.{Command}
-use Rattle.nutparse.specs.declared.err_word.ErrWord.{ErrWord}
-use Rattle.nutparse.specs.Command.{read_command}
-use Rattle.nutparse.specs.ErrWord.{error_line}
+use Rattle.nutcommand.specs.declared.command.Command.{Command}
+use Rattle.nutcommand.specs.declared.err_word.ErrWord.{ErrWord}
+use Rattle.nutcommand.specs.Command.{read_command}
+use Rattle.nutcommand.specs.ErrWord.{error_line}
 use Rattle.nutanswer.specs.View.{UpsSeen, readiness, usable}
 use Rattle.nutanswer.specs.Answer.{Answer, answer_to, text_of_answer}
 use Rattle.nutanswer.specs.Laws.{WhatIsAnsweredIsFresh}

@@ -4,9 +4,9 @@ use Rattle.std.specs.Prelude.{codes, nat_eq}
 use Rattle.std.specs.List.{starts_with}
 use Rattle.std.proofs.lemmas.Slice.Eq.{bytes_eq-Decides}
 use Rattle.nutwords.specs.Frame.{line_of}
-use Rattle.nutparse.specs.declared.command.Command.{Command}
-use Rattle.nutparse.specs.declared.err_word.ErrWord.{ErrWord}
-use Rattle.nutparse.specs.Command.{read_command}
+use Rattle.nutcommand.specs.declared.command.Command.{Command}
+use Rattle.nutcommand.specs.declared.err_word.ErrWord.{ErrWord}
+use Rattle.nutcommand.specs.Command.{read_command}
 use Rattle.nutanswer.specs.Answer.{Answer, one_line, answer_to, text_of_answer}
 use Rattle.nutcore.proofs.Common.{SessionState, ServerState, session, with_session}
 use Rattle.nutcore.specs.Reply.{seen, asker, reply, text_to, change_by}

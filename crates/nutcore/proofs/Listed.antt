@@ -23,8 +23,8 @@ use Rattle.nutdriver.specs.Variable.{VariableState}
 use Rattle.nutdriver.specs.Tree.{byte_order, variable_at}
 use Rattle.nutdriver.specs.Sound.{IsSoundTree}
 use Rattle.nutlisting.specs.Items.{variable_item, is_rw, enum_listing, range_listing}
-use Rattle.nutparse.specs.declared.err_word.ErrWord.{ErrWord}
-use Rattle.nutparse.specs.declared.err_word.ErrWord.TheVariants.{VarNotSupported}
+use Rattle.nutcommand.specs.declared.err_word.ErrWord.{ErrWord}
+use Rattle.nutcommand.specs.declared.err_word.ErrWord.TheVariants.{VarNotSupported}
 use Rattle.nutanswer.specs.View.{Seen, UpsSeen}
 use Rattle.nutanswer.specs.Checks.{◌>>=◌, ◌>>◌, KnownUps, ups_named, unknown_ups, live, var_not_supported}
 use Rattle.nutanswer.specs.Answer.{Answer, listing, in_one_line, text_of_answer}

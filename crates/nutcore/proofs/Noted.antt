@@ -7,10 +7,10 @@ use Rattle.std.specs.Option.{option_and_then}
 use Rattle.std.specs.Str.{bytes_eq}
 use Rattle.nutdriver.specs.declared.fault.DriverFault.{DriverFault}
 use Rattle.nutusers.specs.UpsList.{id_at}
-use Rattle.nutparse.specs.declared.command.Command.{Command}
-use Rattle.nutparse.specs.declared.command.Command.TheVariants.{Login, Primary, Fsd, SetVar, InstCmd}
-use Rattle.nutparse.specs.declared.err_word.ErrWord.{ErrWord}
-use Rattle.nutparse.specs.Command.{read_command}
+use Rattle.nutcommand.specs.declared.command.Command.{Command}
+use Rattle.nutcommand.specs.declared.command.Command.TheVariants.{Login, Primary, Fsd, SetVar, InstCmd}
+use Rattle.nutcommand.specs.declared.err_word.ErrWord.{ErrWord}
+use Rattle.nutcommand.specs.Command.{read_command}
 use Rattle.nutanswer.specs.declared.reply.Change.TheVariants as changes
 use Rattle.std.proofs.lemmas.List.Elements.{filter_map-append}
 use Rattle.nutcore.proofs.Common.{cond_both, option_map, option_map_or, UpsId, TrackingState}

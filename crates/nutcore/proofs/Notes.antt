@@ -7,9 +7,9 @@ use Rattle.std.specs.Prelude.{if◌then◌else◌, is_some}
 use Rattle.std.specs.List.{filter_map, cons_option}
 use Rattle.std.specs.Option.{option_and_then, option_map_or}
 use Rattle.std.proofs.lemmas.List.Elements.{filter_map-append}
-use Rattle.nutparse.specs.declared.command.Command.{Command}
-use Rattle.nutparse.specs.declared.err_word.ErrWord.{ErrWord}
-use Rattle.nutparse.specs.Command.{read_command}
+use Rattle.nutcommand.specs.declared.command.Command.{Command}
+use Rattle.nutcommand.specs.declared.err_word.ErrWord.{ErrWord}
+use Rattle.nutcommand.specs.Command.{read_command}
 use Rattle.nutanswer.specs.declared.reply.Reply.{Reply}
 use Rattle.nutcore.proofs.Common.{SessionState, ServerState, session, UpsId}
 use Rattle.nutcore.specs.declared.note.DataState.TheVariants.{Lost}

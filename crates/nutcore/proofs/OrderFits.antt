@@ -3,8 +3,8 @@
 use Rattle.std.proofs.Common.{◌≡◌, ℕ, List, Option, Some, Result, Ok, ◌∙◌, ap, arith}
 use Rattle.nutanswer.specs.declared.reply.Change.TheVariants.{Fsd}
 use Rattle.nutcore.proofs.Common.{option_map, slice_get-map, UpsId, Change, UpsState, ServerState}
-use Rattle.nutparse.specs.declared.command.Command.{Command}
-use Rattle.nutparse.specs.declared.err_word.ErrWord.{ErrWord}
+use Rattle.nutcommand.specs.declared.command.Command.{Command}
+use Rattle.nutcommand.specs.declared.err_word.ErrWord.{ErrWord}
 use Rattle.nutanswer.proofs.PublicLaws.{orders_fit}
 use Rattle.nutcore.specs.Reply.{seen, seen_ups, asker, change_by}
 use Rattle.nutcore.specs.Promises.{OrderFits}

@@ -5,13 +5,13 @@ use Rattle.std.proofs.Common.{cond, inl, inr}
 use Rattle.std.specs.List.{flat_map}
 use Rattle.std.proofs.lemmas.Grind.{flat_map-append}
 use Rattle.nutcore.proofs.Common.{UpsId, Change, Event, Outcome, ServerState, after}
-use Rattle.nutparse.specs.declared.command.Command.{Command}
-use Rattle.nutparse.specs.declared.command.Command.TheVariants.{SetVar, InstCmd}
+use Rattle.nutcommand.specs.declared.command.Command.{Command}
+use Rattle.nutcommand.specs.declared.command.Command.TheVariants.{SetVar, InstCmd}
 use Rattle.nutanswer.specs.Rows.{IsSet, IsInstCmd, IsIdOfOrder, value_given}
 use Rattle.nutusers.specs.declared.rights.Right.TheVariants as rights
 use Rattle.nutcore.specs.ByRight.{IsByRight}
 use Rattle.std.specs.Prelude.{◌⊎◌}
-use Rattle.nutparse.specs.Command.{read_command}
+use Rattle.nutcommand.specs.Command.{read_command}
 use Rattle.nutanswer.specs.Checks.{KnownUps}
 use Rattle.nutanswer.specs.Orders.{right_to, set_line, instcmd_line, ok_words, order as order_to}
 use Rattle.nutanswer.specs.Answer.{answer_to, change_of_answer}

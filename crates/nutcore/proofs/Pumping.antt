@@ -9,7 +9,7 @@ use Rattle.std.proofs.lemmas.Bool.{cases_Bool, cond-true, cond-false}
 use Rattle.std.proofs.lemmas.List.{drop-drop}
 use Rattle.nutcore.proofs.Common.{Change, SessionState, ServerState, same_Some, session}
 use Rattle.nutcore.proofs.Common.{with_session, with_session_changed, cond_both}
-use Rattle.nutparse.specs.Command.{read_command}
+use Rattle.nutcommand.specs.Command.{read_command}
 use Rattle.nutlisting.specs.declared.outbox.TheConstants.{OWED_LIMIT}
 use Rattle.nutcore.specs.Session.{find, put}
 use Rattle.nutcore.specs.Reply.{reply, change_by, changed, changed_session, changed_upses, changed_tracking}

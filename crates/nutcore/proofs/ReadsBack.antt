@@ -9,10 +9,10 @@ use Rattle.nutlisting.specs.Items.{client_item}
 use Rattle.nutlisting.specs.ReadsBack.{ReadsBack}
 use Rattle.nutlisting.proofs.PublicLaws.{lawful_listings_read_back, sound_entries}
 use Rattle.nutanswer.specs.Checks.{KnownUps, ups_named}
-use Rattle.nutparse.specs.Command.{read_command, HasLawfulUpsName, IsLawfulReading}
+use Rattle.nutcommand.specs.Command.{read_command, HasLawfulUpsName, IsLawfulReading}
 use Rattle.nutanswer.proofs.PublicLaws.{a_named_ups_is_seen}
-use Rattle.nutparse.proofs.PublicLaws.{what_is_read_is_lawful}
-use Rattle.nutparse.specs.declared.command.Command.{Command}
+use Rattle.nutcommand.proofs.PublicLaws.{what_is_read_is_lawful}
+use Rattle.nutcommand.specs.declared.command.Command.{Command}
 use Rattle.nutcore.specs.ByRight.{logged_in}
 use Rattle.nutcore.specs.ReadsBack.{HasLawfulAddress, EachListingReadsBack}
 use Rattle.nutcore.specs.Reply.{seen}

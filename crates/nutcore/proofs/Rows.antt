@@ -3,10 +3,10 @@ use Rattle.std.proofs.Common.{◌≡◌, ◌∙◌, ℕ, Bool, true, false, List
 use Rattle.std.proofs.Common.{Result, Ok, refl, ap, subst}
 use Rattle.nutusers.specs.declared.rights.Right.{Right}
 use Rattle.nutcore.proofs.Common.{UpsId, Change, ServerState}
-use Rattle.nutparse.specs.declared.command.Command.{Command}
-use Rattle.nutparse.specs.declared.err_word.ErrWord.{ErrWord}
+use Rattle.nutcommand.specs.declared.command.Command.{Command}
+use Rattle.nutcommand.specs.declared.err_word.ErrWord.{ErrWord}
 use Rattle.nutanswer.specs.declared.reply.Change.TheVariants.{Nothing}
-use Rattle.nutparse.specs.Command.{read_command}
+use Rattle.nutcommand.specs.Command.{read_command}
 use Rattle.nutanswer.specs.Rows.{ComesOf, IsByRight as IsRowByRight}
 use Rattle.nutanswer.proofs.PublicLaws.{each_change_comes_of_its_command}
 use Rattle.nutcore.specs.Reply.{seen, asker, change_by, text_to}

@@ -6,7 +6,7 @@ use Rattle.std.specs.List.{flat_map}
 use Rattle.nutwords.specs.Reading.{is_name, is_value}
 use Rattle.nutwords.proofs.PublicLaws.{no_line_without_lf}
 use Rattle.nutcore.proofs.Common.{cond_both, UpsId, Change, Event, Outcome, ServerState, after}
-use Rattle.nutparse.specs.Command.{read_command, IsLawfulReading}
+use Rattle.nutcommand.specs.Command.{read_command, IsLawfulReading}
 use Rattle.nutanswer.specs.Orders.{set_line, instcmd_line}
 use Rattle.nutcore.specs.Reply.{change_by}
 use Rattle.nutcore.specs.History.{Execution, of_line, of_notice, executions_in_event}
@@ -25,7 +25,7 @@ use Rattle.nutlisting.specs.Lawful.{IsLawfulText}
 use Rattle.nutlisting.specs.Lines.{IsWholeLine}
 use Rattle.nutlisting.proofs.PublicLaws.{lawful_words_are_a_line}
 use Rattle.nutanswer.proofs.PublicLaws.{order_lines_are_whole}
-use Rattle.nutparse.proofs.PublicLaws.{what_is_read_is_lawful}
+use Rattle.nutcommand.proofs.PublicLaws.{what_is_read_is_lawful}
 use Rattle.nutcore.proofs.OrdersByRight.{by_read, all_in_front}
 use Rattle.nutwords.specs.declared.limits.TheConstants.{LINE_LIMIT}
 

@@ -16,7 +16,7 @@ use Rattle.nutwords.specs.declared.limits.TheConstants.{LINE_LIMIT}
 use Rattle.nutlisting.specs.Lines.{IsWholeLine}
 use Rattle.nutanswer.specs.View.{Seen, AskerSeen}
 use Rattle.nutanswer.specs.Answer.{Answer, answer_to, IsReply, shares_version, text_of_answer, change_of_answer}
-use Rattle.nutparse.specs.Command.{read_command}
+use Rattle.nutcommand.specs.Command.{read_command}
 use Rattle.nuttracking.specs.Tracking.{TrackingState}
 use Rattle.nutcore.specs.Ups.{UpsState}
 use Rattle.nutcore.specs.Reply.{seen, asker, asker_of, reply, text_to, refusal_by, change_by}
@@ -24,9 +24,9 @@ use Rattle.nutcore.specs.Reply.{changed_session, changed_upses, changed_tracking
 use Rattle.nutcore.specs.Pump.{next_line, next_line_for, answered, after_line, after_lines}
 use Rattle.nutcore.specs.Pump.{pump_stops, held_of, after_all_lines, pumped, after_notice}
 use Rattle.nutcore.specs.Pump.{is_overlong, notified, wants_memory, shares_version_read}
-use Rattle.nutparse.specs.declared.command.Command.{Command}
-use Rattle.nutparse.specs.declared.err_word.ErrWord.{ErrWord}
-use Rattle.nutparse.specs.ErrWord.{error_line}
+use Rattle.nutcommand.specs.declared.command.Command.{Command}
+use Rattle.nutcommand.specs.declared.err_word.ErrWord.{ErrWord}
+use Rattle.nutcommand.specs.ErrWord.{error_line}
 use Rattle.nutanswer.specs.declared.reply.Reply.{Reply}
 use Rattle.nutanswer.specs.declared.reply.Reply.TheVariants.{Refused, One, Clients}
 use Rattle.nutanswer.specs.declared.reply.Change.TheVariants.{Nothing}

@@ -29,7 +29,7 @@ use Rattle.nutcore.proofs.Pumping.{is_next, after_line_is, change_at}
 use Rattle.nutcore.proofs.Rows.{comes_of_line, by_right}
 use Rattle.nutcore.proofs.Events.{IsPlain, OfDrivers, of_parts}
 use Rattle.nutcore.proofs.Marks.{IsMark, GoesOn, told, held_after, held_at}
-use Rattle.nutparse.specs.declared.command.Command.TheVariants.{Fsd}
+use Rattle.nutcommand.specs.declared.command.Command.TheVariants.{Fsd}
 use Rattle.nutlisting.specs.Shown.{shown}
 use Rattle.nutanswer.specs.Checks.{KnownUps, ups_named}
 use Rattle.nutanswer.specs.View.{UpsSeen}

@@ -14,7 +14,7 @@ use Rattle.nuttracking.specs.Sound.{IsLawfulProgress, HaveLawfulNumbers, IsSound
 use Rattle.nuttracking.specs.Tracking.{TrackingState}
 use Rattle.nuttracking.proofs.PublicLaws.{nothing_is_sound, acts_keep_it_sound, lawful_acts_keep_numbers_lawful}
 use Rattle.nuttracking.specs.Acts.Act.{handed_in, ordered, reported}
-use Rattle.nutparse.specs.Command.{read_command}
+use Rattle.nutcommand.specs.Command.{read_command}
 use Rattle.nutcore.specs.declared.event.Event.TheVariants.{Open}
 use Rattle.nutcore.specs.declared.event.Outcome.TheVariants.{Opened}
 use Rattle.nutcore.specs.Session.{SessionState, find, put, without, new_session}

@@ -12,11 +12,11 @@ use Rattle.nutusers.specs.Users.{may}
 use Rattle.nutusers.specs.declared.rights.Right.{Right}
 use Rattle.nutusers.specs.declared.rights.Right.TheVariants as rights
 use Rattle.nutusers.specs.declared.ups_list.UpsId.{UpsId}
-use Rattle.nutparse.specs.declared.command.Command.{Command}
-use Rattle.nutparse.specs.declared.command.Command.TheVariants.{Username, Password, Login, Fsd}
-use Rattle.nutparse.specs.declared.command.Command.TheVariants.{GetNumLogins, GetNumAttach}
-use Rattle.nutparse.specs.declared.command.Command.TheVariants.{ListClient}
-use Rattle.nutparse.specs.Command.{read_command}
+use Rattle.nutcommand.specs.declared.command.Command.{Command}
+use Rattle.nutcommand.specs.declared.command.Command.TheVariants.{Username, Password, Login, Fsd}
+use Rattle.nutcommand.specs.declared.command.Command.TheVariants.{GetNumLogins, GetNumAttach}
+use Rattle.nutcommand.specs.declared.command.Command.TheVariants.{ListClient}
+use Rattle.nutcommand.specs.Command.{read_command}
 use Rattle.nutanswer.specs.Checks.{KnownUps, ups_named}
 use Rattle.nutanswer.specs.View.{is_logged_in as is_logged_in_as_seen}
 use Rattle.nutcore.specs.declared.event.Event.{Event}

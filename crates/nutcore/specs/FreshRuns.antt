@@ -7,8 +7,8 @@ use Rattle.nutdriver.specs.Report.{connected_report}
 use Rattle.nutdriver.specs.LastLine.{changes, TheLastLineDecides}
 use Rattle.nutdriver.specs.Sound.{IsSoundTree}
 use Rattle.nutusers.specs.declared.ups_list.UpsId.{UpsId}
-use Rattle.nutparse.specs.declared.command.Command.{Command}
-use Rattle.nutparse.specs.Command.{read_command, asks_data_of}
+use Rattle.nutcommand.specs.declared.command.Command.{Command}
+use Rattle.nutcommand.specs.Command.{read_command, asks_data_of}
 use Rattle.nutanswer.specs.Checks.{KnownUps, ups_named}
 use Rattle.nutanswer.specs.View.{readiness, usable}
 use Rattle.nutcore.specs.declared.event.Event.{Event}

@@ -10,11 +10,11 @@ use Rattle.nutmap.specs.Entries.{HasRisingKeys}
 use Rattle.nutdriver.specs.Sound.{IsSoundTree, HasNoRepeats}
 use Rattle.nutlisting.specs.Items.{ups_item, variable_item, is_rw, command_item, enum_item}
 use Rattle.nutlisting.specs.Items.{range_item}
-use Rattle.nutparse.specs.declared.command.Command.TheVariants.{GetVar, ListUps, ListVar, ListRw}
-use Rattle.nutparse.specs.declared.command.Command.TheVariants.{ListCmd, ListEnum, ListRange}
-use Rattle.nutparse.specs.declared.err_word.ErrWord.TheVariants.{VarNotSupported}
-use Rattle.nutparse.specs.ErrWord.{error_line}
-use Rattle.nutparse.specs.Command.{read_command}
+use Rattle.nutcommand.specs.declared.command.Command.TheVariants.{GetVar, ListUps, ListVar, ListRw}
+use Rattle.nutcommand.specs.declared.command.Command.TheVariants.{ListCmd, ListEnum, ListRange}
+use Rattle.nutcommand.specs.declared.err_word.ErrWord.TheVariants.{VarNotSupported}
+use Rattle.nutcommand.specs.ErrWord.{error_line}
+use Rattle.nutcommand.specs.Command.{read_command}
 use Rattle.nutanswer.specs.View.{readiness, usable}
 use Rattle.nutanswer.specs.Checks.{KnownUps, ups_named}
 use Rattle.nutcore.specs.Server.{ServerState}

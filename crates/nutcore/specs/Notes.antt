@@ -7,13 +7,13 @@ use Rattle.std.specs.Option.{option_map, option_map_or, option_and_then}
 use Rattle.std.specs.Str.{bytes_eq}
 use Rattle.nutdriver.specs.LastLine.{value_of}
 use Rattle.nutusers.specs.declared.ups_list.UpsId.{UpsId}
-use Rattle.nutparse.specs.declared.command.Command.{Command}
-use Rattle.nutparse.specs.declared.command.Command.TheVariants.{Login, Primary, Fsd, SetVar}
-use Rattle.nutparse.specs.declared.command.Command.TheVariants.{InstCmd}
-use Rattle.nutparse.specs.declared.err_word.ErrWord.{ErrWord}
+use Rattle.nutcommand.specs.declared.command.Command.{Command}
+use Rattle.nutcommand.specs.declared.command.Command.TheVariants.{Login, Primary, Fsd, SetVar}
+use Rattle.nutcommand.specs.declared.command.Command.TheVariants.{InstCmd}
+use Rattle.nutcommand.specs.declared.err_word.ErrWord.{ErrWord}
 use Rattle.nutanswer.specs.declared.reply.Change.{Change}
 use Rattle.nutanswer.specs.declared.reply.Change.TheVariants as changes
-use Rattle.nutparse.specs.Command.{read_command}
+use Rattle.nutcommand.specs.Command.{read_command}
 use Rattle.nutcore.specs.declared.note.Note.{Note}
 use Rattle.nutcore.specs.declared.note.Note.TheVariants.{Data, StatusChanged, LineRefused}
 use Rattle.nutcore.specs.declared.note.Note.TheVariants.{LoggedIn, LoggedOut, Did}

@@ -15,16 +15,16 @@ use Rattle.nutanswer.specs.declared.reply.Change.{Change}
 use Rattle.nutanswer.specs.declared.reply.Change.TheVariants.{Nothing}
 use Rattle.nutanswer.specs.Orders.{order}
 use Rattle.nutlisting.specs.declared.outbox.TheConstants.{OWED_LIMIT}
-use Rattle.nutparse.specs.Command.{read_command}
+use Rattle.nutcommand.specs.Command.{read_command}
 use Rattle.nutlisting.specs.Bounded.{with_one}
 use Rattle.nutlisting.specs.Counted.{KeepsCount}
 use Rattle.nutlisting.specs.Counts.{lines}
 use Rattle.nutlisting.specs.Lines.{IsWholeLine}
 use Rattle.nutlisting.specs.Items.{text_of, client_listing}
 use Rattle.nutanswer.specs.View.{Seen, AskerSeen, addresses_at}
-use Rattle.nutparse.specs.declared.command.Command.{Command}
-use Rattle.nutparse.specs.declared.err_word.ErrWord.{ErrWord}
-use Rattle.nutparse.specs.ErrWord.{error_line}
+use Rattle.nutcommand.specs.declared.command.Command.{Command}
+use Rattle.nutcommand.specs.declared.err_word.ErrWord.{ErrWord}
+use Rattle.nutcommand.specs.ErrWord.{error_line}
 use Rattle.nutcore.specs.Session.{SessionState}
 use Rattle.nutwords.specs.WholeLines.{whole_lines, unfinished_after, is_too_long}
 use Rattle.nutdriver.specs.declared.report.LineOutcome.{LineOutcome}

@@ -7,10 +7,10 @@ use Rattle.nutdriver.specs.Tree.{variable_at}
 use Rattle.nutlisting.specs.Items.{is_rw, command_item, client_item}
 use Rattle.nutlisting.specs.ReadsBack.{ReadsBack, variable_words, enum_words, range_words}
 use Rattle.nutlisting.specs.ReadsBack.{ups_words}
-use Rattle.nutparse.specs.declared.command.Command.TheVariants.{ListUps, ListVar, ListRw, ListCmd}
-use Rattle.nutparse.specs.declared.command.Command.TheVariants.{ListEnum, ListRange, ListClient}
+use Rattle.nutcommand.specs.declared.command.Command.TheVariants.{ListUps, ListVar, ListRw, ListCmd}
+use Rattle.nutcommand.specs.declared.command.Command.TheVariants.{ListEnum, ListRange, ListClient}
 use Rattle.nutanswer.specs.Checks.{KnownUps, ups_named}
-use Rattle.nutparse.specs.Command.{read_command}
+use Rattle.nutcommand.specs.Command.{read_command}
 use Rattle.nutcore.specs.ByRight.{logged_in}
 use Rattle.nutcore.specs.Listed.{AsksOf}
 use Rattle.nutcore.specs.Reply.{seen, reply}

@@ -1,11 +1,11 @@
 -- The reply to a line (RFC 9271) on the server of that moment, and its changes.
 use Rattle.std.specs.Prelude.{ℕ, false, List, [], Option, Some, None, Result, Ok, Err, map}
 use Rattle.std.specs.Result.{result_err}
-use Rattle.nutparse.specs.declared.command.Command.{Command}
-use Rattle.nutparse.specs.declared.err_word.ErrWord.{ErrWord}
-use Rattle.nutparse.specs.declared.err_word.ErrWord.TheVariants.{TooLong}
-use Rattle.nutparse.specs.ErrWord.{error_line}
-use Rattle.nutparse.specs.Command.{read_command}
+use Rattle.nutcommand.specs.declared.command.Command.{Command}
+use Rattle.nutcommand.specs.declared.err_word.ErrWord.{ErrWord}
+use Rattle.nutcommand.specs.declared.err_word.ErrWord.TheVariants.{TooLong}
+use Rattle.nutcommand.specs.ErrWord.{error_line}
+use Rattle.nutcommand.specs.Command.{read_command}
 use Rattle.nutanswer.specs.declared.reply.Change.{Change}
 use Rattle.nutanswer.specs.declared.reply.Change.TheVariants.{Nothing, Username, Password, Login}
 use Rattle.nutanswer.specs.declared.reply.Change.TheVariants.{Ending, Fsd, Order, Tracking, Tracked}

@@ -10,7 +10,7 @@ use Rattle.nuttracking.specs.Sound.{IsSoundTracking}
 use Rattle.nuttracking.specs.Tracking.{nothing_tracked, next_id, progress_of, with_order}
 use Rattle.nutanswer.specs.declared.reply.Change.{Change}
 use Rattle.nutanswer.specs.declared.reply.Change.TheVariants.{Tracked}
-use Rattle.nutparse.specs.Command.{read_command}
+use Rattle.nutcommand.specs.Command.{read_command}
 use Rattle.nutcore.specs.declared.event.Event.{Event}
 use Rattle.nutcore.specs.declared.event.Event.TheVariants.{DriverBytes, Id}
 use Rattle.nutcore.specs.declared.event.Outcome.{Outcome}

@@ -3,7 +3,7 @@ ghost use Rattle.std.specs.Prelude.{◌≡◌, ◌<◌, take, length, MatchOptio
 ghost use Rattle.nutwords.specs.SplitLine.{first_line};
 
 use bstr::ByteSlice;
-use nutparse::{Command, ErrWord};
+use nutcommand::{Command, ErrWord};
 
 /// A line as it was read: a command, nothing where it has no words, or the word of an error.
 pub(crate) type ReadLine<'a> = Result<Option<Command<'a>>, ErrWord>;

@@ -7,7 +7,7 @@ use crate::HELD_LIMIT;
 use crate::event::ClientId;
 use nutdriver::DriverFault;
 use nutlisting::BoundedList;
-use nutparse::ErrWord;
+use nutcommand::ErrWord;
 use nutusers::{UpsId, UserName};
 use nutwords::{Address, Name, UpsName, Value};
 use std::fmt::{self, Formatter, Write};

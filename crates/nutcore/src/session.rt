@@ -27,7 +27,7 @@ use crate::scratch::Scratch;
 use crate::server::Standing;
 use nutanswer::{Asker, Change, Reply};
 use nutlisting::{ByteQueue, Clients, Outbox};
-use nutparse::{Command, ErrWord};
+use nutcommand::{Command, ErrWord};
 use nutusers::{Password, UpsId, UserName};
 use nutwords::Address;
 use std::alloc::{AllocError, Global};

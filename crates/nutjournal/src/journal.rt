@@ -8,7 +8,7 @@ use crate::drivers::{Driver, Drivers, is_any_awaited};
 use crate::log_buffer::{INFO, LogBuffer, WARNING};
 use crate::tallies::{Of, Tallies, is_any_counted};
 use crate::tally::{Count, Kind, MINUTE, begins_minute};
-use nutcommand::Said;
+use nutargs::Said;
 use nutcore::{DataState, Deed, MaxAge, Note, Server, UpsId, Verb, Who};
 use nutwords::UpsName;
 use std::alloc::AllocError;

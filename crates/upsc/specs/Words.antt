@@ -2,8 +2,8 @@
 use Rattle.std.specs.Prelude.{◌≡◌, List, ◌∷◌, [], Some, None, true, false, codes}
 use Rattle.clap.specs.Words.{first_value, found_of}
 use Rattle.clap.specs.declared.parser.matches.ArgMatches.{ArgMatches}
-use Rattle.nutcommand.specs.Words.{Excludes, Free, IsFlag, IsGiven, IsMaybe, Row, StandsUnless}
-use Rattle.nutcommand.specs.Words.{long_flag, long_option, operand, short_flag}
+use Rattle.nutargs.specs.Words.{Excludes, Free, IsFlag, IsGiven, IsMaybe, Row, StandsUnless}
+use Rattle.nutargs.specs.Words.{long_flag, long_option, operand, short_flag}
 use Rattle.nutclient.specs.declared.given.Given.{Given}
 use Rattle.nutclient.specs.declared.given.Given.TheVariants.{Attached, Clients, Descriptions}
 use Rattle.nutclient.specs.declared.given.Given.TheVariants.{Tracked, Upses, Variable, Variables}

@@ -1,8 +1,8 @@
 -- The words that upscmd takes, and what they ask for.
 use Rattle.std.specs.Prelude.{List, ◌∷◌, [], true, false, codes}
 use Rattle.clap.specs.declared.parser.matches.ArgMatches.{ArgMatches}
-use Rattle.nutcommand.specs.Words.{Excludes, Free, IsFlag, IsGiven, IsMaybe, Required, Row}
-use Rattle.nutcommand.specs.Words.{StandsUnless, long_flag, operand, short_flag, short_option}
+use Rattle.nutargs.specs.Words.{Excludes, Free, IsFlag, IsGiven, IsMaybe, Required, Row}
+use Rattle.nutargs.specs.Words.{StandsUnless, long_flag, operand, short_flag, short_option}
 use Rattle.nutclient.specs.declared.given.Given.{Given}
 use Rattle.nutclient.specs.declared.given.Given.TheVariants.{Command, Commands}
 

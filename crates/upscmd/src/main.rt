@@ -6,7 +6,7 @@ ghost use Rattle.upscmd.specs.Words.{IsAsked, upscmd_words};
 
 use clap::ArgMatches;
 use nutclient::{Client, Given, Program, Sender, main_of};
-use nutcommand::{Word, words};
+use nutargs::{Word, words};
 use std::process::ExitCode;
 
 fn main(rt: HostRuntime) -> ExitCode {

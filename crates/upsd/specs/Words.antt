@@ -5,7 +5,7 @@ use Rattle.clap.specs.Words.{App, FailsBy, HasMatchesOf, Shape, Text, fault_of, 
 use Rattle.clap.specs.declared.builder.value_parser.ValueParser.TheVariants.{Unsigned}
 use Rattle.clap.specs.declared.error.Error.{Error}
 use Rattle.clap.specs.declared.parser.matches.ArgMatches.{ArgMatches}
-use Rattle.nutcommand.specs.Words.{Free, Required, Row, long_flag, long_option, operand, with_words}
+use Rattle.nutargs.specs.Words.{Free, Required, Row, long_flag, long_option, operand, with_words}
 use Rattle.nutcore.specs.declared.max_age.TheConstants.{MAX_AGE_LEAST, MAX_AGE_MOST}
 use Rattle.upsd.specs.declared.task.TheConstants.{DEFAULT_ADDRESS, RECORD_MIB_MOST}
 

@@ -2,7 +2,7 @@
 ghost use Rattle.std.specs.Prelude.{◌≡◌, MatchResult, Ok, Err};
 ghost use Rattle.upsd.specs.Ending.{EndsByFault, ending_of_replay, status_of};
 
-use nutcommand::Said;
+use nutargs::Said;
 use nutloop::LoopFault;
 use nutreplay::ReplayFault;
 use nutusers::{Cause, ConfFault};

@@ -2,7 +2,7 @@
 //! begins.
 
 use crate::files::Files;
-use nutcommand::Said;
+use nutargs::Said;
 use nutcore::{UpsId, UpsList, Users};
 use nutloop::ID_SIZE;
 use nutusers::{Grant, User};

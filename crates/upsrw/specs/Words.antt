@@ -2,8 +2,8 @@
 use Rattle.std.specs.Prelude.{◌≡◌, List, ◌∷◌, [], Some, None, codes}
 use Rattle.clap.specs.Words.{first_value, found_of}
 use Rattle.clap.specs.declared.parser.matches.ArgMatches.{ArgMatches}
-use Rattle.nutcommand.specs.Words.{IsFlag, IsGiven, Needs, Required, Row, long_flag, operand}
-use Rattle.nutcommand.specs.Words.{short_option}
+use Rattle.nutargs.specs.Words.{IsFlag, IsGiven, Needs, Required, Row, long_flag, operand}
+use Rattle.nutargs.specs.Words.{short_option}
 use Rattle.nutclient.specs.declared.given.Given.{Given}
 use Rattle.nutclient.specs.declared.given.Given.TheVariants.{Set, Writable}
 

@@ -4,7 +4,7 @@ ghost use Rattle.nutanswer.specs.View.{asker_seen};
 ghost use Rattle.nutanswer.specs.Answer.{answer_to, one_line};
 ghost use Rattle.nutanswer.specs.Orders.{order, ok_words};
 ghost use Rattle.nutanswer.specs.Promises.{CarriesAnswer, Gives, GivesLine, row};
-ghost use Rattle.nutparse.specs.declared.command.Command.TheVariants.{SetVar, InstCmd, GetProgress};
+ghost use Rattle.nutcommand.specs.declared.command.Command.TheVariants.{SetVar, InstCmd, GetProgress};
 ghost use Rattle.nutanswer.specs.declared.lines.TheConstants.{ORDER_LINE_LIMIT};
 
 use super::{Made, Row, ok};
@@ -12,7 +12,7 @@ use crate::checks::{command_value, settable};
 use crate::lines::{order_line_into, push_answer};
 use crate::{Asker, Change, OrderLine, Peers, Reply, View};
 use nutlisting::progress_line_into;
-use nutparse::{ErrWord, NameWord, UpsWord, ValueWord};
+use nutcommand::{ErrWord, NameWord, UpsWord, ValueWord};
 use nutusers::{Right, UpsId};
 use nutwords::Line;
 

@@ -4,11 +4,11 @@ ghost use Rattle.std.specs.Prelude.{Ok};
 ghost use Rattle.nutanswer.specs.View.{Seen, asker_seen};
 ghost use Rattle.nutanswer.specs.Answer.{answer_to, ok};
 ghost use Rattle.nutanswer.specs.Promises.{Gives, GivesReply, row};
-ghost use Rattle.nutparse.specs.declared.command.Command.TheVariants.{Username, Password, Login, Primary, Fsd, GetTracking, ListClient};
+ghost use Rattle.nutcommand.specs.declared.command.Command.TheVariants.{Username, Password, Login, Primary, Fsd, GetTracking, ListClient};
 
 use super::{Row, ok, plain};
 use crate::{Asker, Change, GivenPassword, Peers, Reply, View};
-use nutparse::{ErrWord, PasswordWord, UpsWord, UserWord};
+use nutcommand::{ErrWord, PasswordWord, UpsWord, UserWord};
 use nutusers::Right;
 use nutwords::Line;
 

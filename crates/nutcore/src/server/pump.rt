@@ -23,7 +23,7 @@ use crate::session::{Next, Session};
 use crate::ups::Ups;
 use nutanswer::{Change, Reply, View};
 use nutlisting::Clients;
-use nutparse::Command;
+use nutcommand::Command;
 use nuttracking::Tracking;
 use nutusers::UpsId;
 use std::alloc::AllocError;

@@ -1,7 +1,7 @@
 use Rattle.std.proofs.Common.{◌≡◌, ◌∙◌, ap, codes, subst, IfOk}
 use Rattle.clap.specs.Simple.{app_of_fields}
 use Rattle.clap.specs.Words.{app_of, new_app}
-use Rattle.nutcommand.specs.Words.{with_words}
+use Rattle.nutargs.specs.Words.{with_words}
 use Rattle.upsd.specs.Words.{serve_words}
 use Rattle.upsd.proofs.serve_command.Goals as goal
 

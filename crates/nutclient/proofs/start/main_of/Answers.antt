@@ -1,5 +1,5 @@
 use Rattle.std.proofs.Common.{Err, Ok, map, string_bytes, subst, sym, ◌∙◌}
-use Rattle.nutcommand.specs.Words.{program_with}
+use Rattle.nutargs.specs.Words.{program_with}
 use Rattle.nutclient.specs.Ending.{name_of}
 use Rattle.nutclient.specs.Start.{EndsByWords}
 use Rattle.nutclient.proofs.start.main_of.Goals as goal

@@ -1,7 +1,7 @@
 use Rattle.std.proofs.Common.{◌≡◌, [], ◌∷◌, Result, Ok, refl, sym, subst}
 use Rattle.std.specs.Prelude.{codes}
-use Rattle.nutparse.specs.declared.err_word.ErrWord.{ErrWord}
-use Rattle.nutparse.specs.declared.command.Command.TheVariants as commands
+use Rattle.nutcommand.specs.declared.err_word.ErrWord.{ErrWord}
+use Rattle.nutcommand.specs.declared.command.Command.TheVariants as commands
 use Rattle.nutanswer.specs.declared.reply.Change.TheVariants.{Fsd}
 use Rattle.nutanswer.specs.View.{asker_seen}
 use Rattle.nutanswer.specs.Checks.{unknown_ups}

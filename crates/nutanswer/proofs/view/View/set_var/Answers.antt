@@ -4,7 +4,7 @@ use Rattle.nutwords.specs.declared.limits.TheConstants.{VALUE_LIMIT}
 use Rattle.std.proofs.lemmas.Result.{err_from_is_err_and}
 use Rattle.nutanswer.specs.View.{asker_seen}
 use Rattle.nutanswer.specs.Answer.{Answer, one_line}
-use Rattle.nutparse.specs.declared.err_word.ErrWord.{ErrWord}
+use Rattle.nutcommand.specs.declared.err_word.ErrWord.{ErrWord}
 use Rattle.nutanswer.specs.Orders.{order, ok_words}
 use Rattle.nutanswer.specs.Promises.{CarriesAnswer, known_variable, live_variable, settable}
 use Rattle.nutanswer.proofs.Rows.{set_without, set_refused, set_without_id, set_full, set_done, settable_is}

@@ -1,5 +1,5 @@
 use Rattle.std.proofs.Common.{◌∙◌, [], Option, Ok, refl, ap}
-use Rattle.nutparse.specs.declared.command.Command.{Command}
+use Rattle.nutcommand.specs.declared.command.Command.{Command}
 use Rattle.nutanswer.specs.View.{asker_seen}
 use Rattle.nutcore.specs.Reply.{refusal_by}
 use Rattle.nutcore.proofs.Serving.{replies_nothing, answers_each}

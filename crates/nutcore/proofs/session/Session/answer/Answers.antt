@@ -8,7 +8,7 @@ use Rattle.nutlisting.specs.Items.{client_listing, text_of}
 use Rattle.nutlisting.specs.Lines.{IsWholeLine}
 use Rattle.nutlisting.specs.Owed.{owed}
 use Rattle.nutanswer.proofs.PublicLaws.{error_lines_are_whole}
-use Rattle.nutparse.specs.ErrWord.{error_line}
+use Rattle.nutcommand.specs.ErrWord.{error_line}
 use Rattle.nutlisting.proofs.PublicLaws.{what_is_placed_is_counted}
 use Rattle.nutcore.specs.Promises.{IsShort}
 use Rattle.nutcore.specs.Reply.{changed_session}

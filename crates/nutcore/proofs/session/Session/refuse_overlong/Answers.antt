@@ -1,5 +1,5 @@
 use Rattle.std.proofs.Common.{◌≡◌, ◌≤◌, ℕ, List, true, ap, arith, length, subst, sym}
-use Rattle.nutparse.specs.declared.err_word.ErrWord.TheVariants.{TooLong}
+use Rattle.nutcommand.specs.declared.err_word.ErrWord.TheVariants.{TooLong}
 use Rattle.nutanswer.proofs.PublicLaws.{error_lines_are_whole}
 use Rattle.nutlisting.specs.Counted.{IsCounted}
 use Rattle.nutlisting.specs.Lines.{IsWholeLine}

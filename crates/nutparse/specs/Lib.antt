@@ -1,3 +1,0 @@
-pub mod ErrWord
-pub mod Command
-pub mod Promises
