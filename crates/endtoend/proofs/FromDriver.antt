@@ -3,7 +3,7 @@ use Rattle.std.proofs.Common.{◌≡◌, ◌∙◌, ℕ, Bool, List, [], ◌∷�
 use Rattle.std.proofs.Common.{Option, Some, None, refl, sym, ap, subst, All}
 use Rattle.std.specs.Prelude.{option_map}
 use Rattle.std.proofs.lemmas.List.Elements.{All-head, All-tail}
-use Rattle.nutwords.specs.Text.{with_lf}
+use Rattle.nutwords.specs.SplitLine.{with_lf}
 use Rattle.nutdriver.specs.Variable.{VariableState, new_variable}
 use Rattle.nutdriver.specs.Tree.{TreeState, variable_at}
 use Rattle.nutdriver.specs.LastLine.{TheLastLineDecides}

@@ -8,7 +8,7 @@ use Rattle.std.specs.Prelude.{◌≢◌, ◌==◌, is_ok, IfSome}
 use Rattle.nutwords.specs.Bytes.{is_name_byte}
 use Rattle.nutwords.specs.Reading.{read_text, read_name, is_name, is_ups_name}
 use Rattle.nutio.specs.Ends.{NoneFailed}
-use Rattle.nutrequest.specs.State.{unread_of, reader_of, writer_of}
+use Rattle.nutrequest.specs.Session.{unread_of, reader_of, writer_of}
 use Rattle.nutrequest.specs.declared.faults.ClientFault.TheVariants.{Memory}
 use Rattle.nutrequest.specs.declared.request.Query.{Query}
 use Rattle.nutrequest.specs.declared.request.Query.TheVariants as queries

@@ -3,7 +3,7 @@ use Rattle.std.proofs.Common.{◌≡◌, ℕ, ◌<◌, List, [], ◌∷◌, ◌+
 use Rattle.std.proofs.Common.{get_or, false, refl, ap, arith}
 use Rattle.std.specs.Prelude.{codes}
 use Rattle.std.specs.Result.{result_unwrap_or}
-use Rattle.nutwords.specs.SplitLine.{has_lf}
+use Rattle.nutwords.specs.Cut.{has_lf}
 use Rattle.nutwords.specs.Frame.{line_of, frame_lines}
 use Rattle.nutwords.specs.Grammar.{Reads}
 use Rattle.nutwords.specs.Lines.{line as a_line}

@@ -8,7 +8,7 @@ use Rattle.nutwords.specs.Bytes.{is_bare, is_blank, is_lawful, is_quotable}
 use Rattle.nutwords.specs.Grammar.{Units, none, itself, escaped, Spells, bare, quoted}
 use Rattle.nutwords.specs.Grammar.{Reads, end, blank, word}
 use Rattle.nutwords.specs.Scan.{read_line}
-use Rattle.nutwords.specs.SplitLine.{has_lf}
+use Rattle.nutwords.specs.Cut.{has_lf}
 use Rattle.nutwords.specs.declared.faults.BadLine.{BadLine}
 use Rattle.nutwords.proofs.PublicLaws.{read_line_is_the_grammar}
 use Rattle.nutcommand.specs.Command.{read_command, command_from}

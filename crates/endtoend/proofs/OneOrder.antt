@@ -9,7 +9,8 @@ use Rattle.std.proofs.lemmas.Bool.{eq-eqb, eqb-true}
 use Rattle.std.proofs.lemmas.Grind.{flat_map-append}
 use Rattle.std.proofs.lemmas.List.Elements.{All-nil, All-cons, All-head, All-tail, All-push, All-filter, All-weaker}
 use Rattle.nutwords.specs.Frame.{line_of as text_line}
-use Rattle.nutwords.specs.SplitLine.{has_lf, first_line, split_line}
+use Rattle.nutwords.specs.SplitLine.{first_line, split_line}
+use Rattle.nutwords.specs.Cut.{has_lf}
 use Rattle.nutwords.specs.WholeLines.{whole_lines, ended_lines, unfinished_after}
 use Rattle.nutwords.proofs.PublicLaws.{first_line_is_cut_off}
 use Rattle.nutusers.specs.Users.{may}

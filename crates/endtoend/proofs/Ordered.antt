@@ -10,10 +10,10 @@ use Rattle.nutcommand.specs.declared.command.Command.TheVariants as commands
 use Rattle.nutcommand.specs.declared.err_word.ErrWord.{ErrWord}
 use Rattle.nutcommand.specs.declared.err_word.ErrWord.TheVariants.{UnknownUps, SetFailed, InstcmdFailed}
 use Rattle.nutanswer.specs.declared.reply.Change.{Change}
-use Rattle.nutanswer.specs.Checks.{◌>>=◌, ◌>>◌, KnownUps, ups_named, unknown_ups, user}
-use Rattle.nutanswer.specs.Checks.{live, var_not_supported, readonly, too_long, invalid_value}
-use Rattle.nutanswer.specs.Checks.{first_id, no_id, set_failed, cmd_not_supported}
-use Rattle.nutanswer.specs.Checks.{too_long_of_command, instcmd_failed}
+use Rattle.nutanswer.specs.Checks.{◌>>=◌, ◌>>◌, KnownUps, ups_named, known_ups, user}
+use Rattle.nutanswer.specs.Checks.{live, known_variable, readonly, settable_value, invalid_value}
+use Rattle.nutanswer.specs.Checks.{first_id, order_id, set_failed, known_command}
+use Rattle.nutanswer.specs.Checks.{command_value, instcmd_failed}
 use Rattle.nutanswer.specs.Orders.{instcmd_right, set_line, instcmd_line, ok_words}
 use Rattle.nutanswer.specs.Answer.{Answer, one_line, answer_to, text_of_answer}
 use Rattle.nutanswer.specs.Rows.{IsIdOfOrder}
@@ -42,7 +42,7 @@ module _ (s : Seen) (a : AskerSeen) (ups : Option (List ℕ)) where
 
   behind_ups : (next : KnownUps → Result Answer ErrWord) →
       ((known : KnownUps) → ups_named s ups ≡ Some known → IsEither s a ups (next known)) →
-      IsEither s a ups (unknown_ups s ups >>= next)
+      IsEither s a ups (known_ups s ups >>= next)
   behind_ups next h = by_name (ups_named s ups) refl
     where
       by_name : (o : Option KnownUps) → ups_named s ups ≡ o → IsEither s a ups (ok_or o UnknownUps >>= next)
@@ -51,7 +51,7 @@ module _ (s : Seen) (a : AskerSeen) (ups : Option (List ℕ)) where
 
   behind_id : (word : ErrWord) (next : Option ℕ → Result Answer ErrWord) →
       ((id : Option ℕ) → IsIdOfOrder s a id → IsEither s a ups (next id)) →
-      IsEither s a ups (no_id s a word >>= next)
+      IsEither s a ups (order_id s a word >>= next)
   behind_id word next h = by_flag a.tracking (next_id s.tracking) refl refl
     where
       by_flag : (on : Bool) (o : Option ℕ) → a.tracking ≡ on → next_id s.tracking ≡ o →
@@ -69,8 +69,8 @@ pub set_either : (s : Seen) (a : AskerSeen) (ups name word : Option (List ℕ)) 
 set_either s a ups name word =
     behind_check s a ups (user s a rights.Set) _
     (behind_ups s a ups _ (λ u e. behind_check s a ups (live s u) _
-    (behind_found s a ups (var_not_supported u name) _ (λ p. behind_check s a ups (readonly p.1) _
-    (behind_found s a ups (too_long p.1 word) _ (λ value. behind_check s a ups (invalid_value p.1 value) _
+    (behind_found s a ups (known_variable u name) _ (λ p. behind_check s a ups (readonly p.1) _
+    (behind_found s a ups (settable_value p.1 word) _ (λ value. behind_check s a ups (invalid_value p.1 value) _
     (behind_id s a ups SetFailed _ (λ id is. behind_check s a ups
     (set_failed u (set_line p.0 value id)) _ (answered_ok s a ups u id _ e is)))))))))
 
@@ -79,8 +79,8 @@ pub command_either : (s : Seen) (a : AskerSeen) (ups name : Option (List ℕ))
 command_either s a ups name word =
     behind_check s a ups (user s a (instcmd_right name)) _
     (behind_ups s a ups _ (λ u e. behind_check s a ups (live s u) _
-    (behind_found s a ups (cmd_not_supported u name) _ (λ c.
-    behind_found s a ups (too_long_of_command word) _ (λ value.
+    (behind_found s a ups (known_command u name) _ (λ c.
+    behind_found s a ups (command_value word) _ (λ value.
     behind_id s a ups InstcmdFailed _
     (λ id is. behind_check s a ups (instcmd_failed u (instcmd_line c value id)) _
     (answered_ok s a ups u id _ e is)))))))

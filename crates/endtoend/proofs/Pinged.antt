@@ -27,12 +27,15 @@ use Rattle.nutcore.specs.History.{executions_by}
 use Rattle.nutcore.specs.Isolation.{AClientTouchesNoOther, kept_from_clients, without_commands}
 use Rattle.nutcore.specs.Reports.{is_unawaited, with_end}
 use Rattle.nutcore.specs.Run.{Run}
-use Rattle.nutcore.specs.Server.{ServerState, ups_at, changed_at, with_ups_changed}
+use Rattle.nutcore.specs.Server.{ServerState}
+use Rattle.nutcore.specs.Parts.{ups_at, changed_at, with_ups_changed}
 use Rattle.nutcore.specs.Session.{new_session}
 use Rattle.nutcore.specs.Sound.{Each, IsSoundUps}
-use Rattle.nutcore.specs.Step.{Step, after, after_by, after_driver_bytes, after_driver_took}
-use Rattle.nutcore.specs.Step.{driver_may_take}
-use Rattle.nutcore.specs.Step.{connected, disconnected, opened, may_open, refused_after, ticked}
+use Rattle.nutcore.specs.Step.{Step, after, after_by}
+use Rattle.nutcore.specs.DriverEvents.{after_driver_bytes, after_driver_took}
+use Rattle.nutcore.specs.DriverEvents.{driver_may_take}
+use Rattle.nutcore.specs.Step.{opened, may_open, refused_after}
+use Rattle.nutcore.specs.DriverEvents.{connected, disconnected, ticked}
 use Rattle.nutcore.specs.Ups.{UpsState, ping_line, ping_is_due, after_tick, after_texts, after_text, after_outcome}
 use Rattle.nutcore.specs.Ups.{after_connecting, after_loss, with_faulty_line, with_unfinished}
 use Rattle.nutcore.specs.Ups.{ups_after_bytes, ups_after_text, with_rest, is_refused}

@@ -16,7 +16,7 @@ use Rattle.nutwords.specs.Frame.{frame, line_of, begin_line}
 use Rattle.nutwords.specs.Listing.{as_it_is, IsWrittenLine, IsWritten}
 use Rattle.nutwords.specs.Reading.{is_name, is_ups_name, is_value}
 use Rattle.nutwords.specs.Spelling.{quoted}
-use Rattle.nutwords.specs.Text.{with_lf}
+use Rattle.nutwords.specs.SplitLine.{with_lf}
 use Rattle.nutdriver.specs.Sound.{IsSoundVariable, IsSoundTree}
 use Rattle.nutdriver.specs.Tree.{byte_order}
 use Rattle.nutdriver.specs.Variable.{VariableState}

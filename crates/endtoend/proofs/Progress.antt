@@ -23,7 +23,7 @@ use Rattle.nuttracking.specs.declared.order.Progress.{Progress}
 use Rattle.nuttracking.specs.declared.order.Progress.TheVariants.{Pending, Done}
 use Rattle.nuttracking.specs.declared.order.TrackedOrder.{TrackedOrder}
 use Rattle.nuttracking.proofs.PublicLaws.{ids_are_plain, written_is_read, read_is_written, its_driver_settles_it_once}
-use Rattle.nutlisting.specs.Tracked.{progress_words}
+use Rattle.nutlisting.specs.Lines.{progress_words}
 use Rattle.nutanswer.specs.Answer.{in_one_line, text_of_answer}
 use Rattle.nutanswer.specs.Checks.{◌>>=◌}
 use Rattle.nutcommand.specs.Command.{read_command}

@@ -4,7 +4,7 @@ use Rattle.std.proofs.Common.{Option, refl, sym, ap, subst}
 use Rattle.std.specs.Prelude.{All}
 use Rattle.std.proofs.lemmas.List.{append_cancel_left}
 use Rattle.std.proofs.lemmas.List.Elements.{All-head, All-tail}
-use Rattle.nutwords.specs.Text.{with_lf}
+use Rattle.nutwords.specs.SplitLine.{with_lf}
 use Rattle.nutusers.specs.declared.rights.Right.{Right}
 use Rattle.nutusers.specs.declared.ups_list.UpsId.{UpsId}
 use Rattle.nutcore.specs.DriverOrders.{given_by_line}

@@ -7,7 +7,7 @@ use Rattle.std.specs.List.{Contains, filter, starts_with, slice_index_or}
 use Rattle.std.proofs.lemmas.List.{map-append}
 use Rattle.nutwords.specs.Frame.{frame, line_of}
 use Rattle.nutwords.specs.Spelling.{quoted}
-use Rattle.nutwords.specs.Text.{with_lf}
+use Rattle.nutwords.specs.SplitLine.{with_lf}
 use Rattle.nutdriver.specs.Sound.{IsSoundTree}
 use Rattle.nutdriver.specs.Variable.{VariableState}
 use Rattle.nutlisting.specs.Items.{variable_item, is_rw}

@@ -2,7 +2,7 @@
 use Rattle.std.specs.Prelude.{◌≡◌, ℕ, false, List, [], ◌∷◌, ◌++◌, Some, codes, nat_eq, IsTrue}
 use Rattle.std.specs.List.{starts_with}
 use Rattle.nutwords.specs.Reading.{is_name, is_ups_name}
-use Rattle.nutwords.specs.Text.{with_lf}
+use Rattle.nutwords.specs.SplitLine.{with_lf}
 use Rattle.nutdriver.specs.declared.line.DriverLine.{DriverLine}
 use Rattle.nutdriver.specs.declared.line.DriverLine.TheVariants.{SetInfo}
 use Rattle.nutdriver.specs.LastLine.{NoneDecides, TheLastLineDecides}

@@ -4,7 +4,7 @@ use Rattle.std.specs.Prelude.{Some, Result, Ok, Err}
 use Rattle.std.specs.Io.KnownBytes.{Appends}
 use denote.Ref.{Bor}
 use Rattle.nutwords.specs.Frame.{line_of}
-use Rattle.nutwords.specs.Text.{with_lf}
+use Rattle.nutwords.specs.SplitLine.{with_lf}
 use Rattle.nuttracking.specs.Id.{read_id}
 use Rattle.nuttracking.specs.Sound.{HaveLawfulNumbers}
 use Rattle.nuttracking.specs.Tracking.{progress_of}
@@ -12,13 +12,13 @@ use Rattle.nuttracking.specs.declared.order.Progress.{Progress}
 use Rattle.nutdriver.specs.Variable.{VariableState}
 use Rattle.nutusers.specs.UpsList.{IsList}
 use Rattle.nutlisting.specs.Shown.{shown}
-use Rattle.nutlisting.specs.Tracked.{progress_words}
-use Rattle.nutlisting.specs.declared.listing.clients.TheConstants.{SESSION_LIMIT}
+use Rattle.nutlisting.specs.Lines.{progress_words}
+use Rattle.nutusers.specs.declared.limits.TheConstants.{SESSION_LIMIT}
 use Rattle.nutanswer.specs.Checks.{KnownUps, ups_named}
 use Rattle.nutcore.specs.Reply.{seen, reply}
 use Rattle.nutcore.specs.Server.{ServerState}
 use Rattle.nutio.specs.Ends.{NoneFailed}
-use Rattle.nutrequest.specs.State.{unread_of, reader_of, writer_of}
+use Rattle.nutrequest.specs.Session.{unread_of, reader_of, writer_of}
 use Rattle.nutrequest.specs.declared.faults.ClientFault.{ClientFault}
 use Rattle.nutrequest.specs.declared.faults.ClientFault.TheVariants.{Memory}
 use Rattle.nutrequest.specs.declared.request.Query.TheVariants as queries

@@ -2,8 +2,8 @@
 use Rattle.std.specs.Prelude.{◌≡◌, ℕ, false, List, [], codes, nat_eq, IsTrue}
 use Rattle.std.specs.List.{starts_with}
 use Rattle.nutwords.specs.Reading.{is_name, is_ups_name}
-use Rattle.nutwords.specs.SplitLine.{has_lf}
-use Rattle.nutwords.specs.Text.{with_lf}
+use Rattle.nutwords.specs.Cut.{has_lf}
+use Rattle.nutwords.specs.SplitLine.{with_lf}
 use Rattle.nutcore.specs.declared.event.Event.{Event}
 use Rattle.nutcore.specs.declared.event.Outcome.{Outcome}
 use Rattle.nutcore.specs.Server.{ServerState}

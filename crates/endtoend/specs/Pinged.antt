@@ -8,7 +8,8 @@ use Rattle.nutcore.specs.declared.TheConstants.{DRIVER_OWED_LIMIT}
 use Rattle.nutcore.specs.DriverHistory.{StaysConnected, heard}
 use Rattle.nutcore.specs.DriverOrders.{ping, given_in_event, moment_of, owed_to_driver}
 use Rattle.nutcore.specs.Run.{Run}
-use Rattle.nutcore.specs.Server.{ServerState, ups_at}
+use Rattle.nutcore.specs.Server.{ServerState}
+use Rattle.nutcore.specs.Parts.{ups_at}
 use Rattle.nutcore.specs.Sound.{IsSound}
 use Rattle.nutcore.specs.Ups.{UpsState, ping_line}
 

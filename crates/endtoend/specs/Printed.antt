@@ -4,12 +4,12 @@ use Rattle.std.specs.Prelude.{length, All, IsTrue}
 use Rattle.std.specs.Fmt.{decimal}
 use Rattle.std.specs.List.{flat_map}
 use Rattle.nutwords.specs.Reading.{is_name, is_ups_name}
-use Rattle.nutwords.specs.Text.{with_lf}
+use Rattle.nutwords.specs.SplitLine.{with_lf}
 use Rattle.nutdriver.specs.Variable.{VariableState}
 use Rattle.nutusers.specs.UpsList.{Ups, IsList}
 use Rattle.nutlisting.specs.Items.{is_rw}
 use Rattle.nutlisting.specs.Shown.{shown, ups_description}
-use Rattle.nutlisting.specs.declared.listing.clients.TheConstants.{SESSION_LIMIT}
+use Rattle.nutusers.specs.declared.limits.TheConstants.{SESSION_LIMIT}
 use Rattle.nutanswer.specs.Checks.{KnownUps, ups_named}
 use Rattle.nutcore.specs.ByRight.{logged_in}
 use Rattle.nutcore.specs.ReadsBack.{HasLawfulAddress}

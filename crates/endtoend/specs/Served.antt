@@ -1,6 +1,6 @@
 -- A client's request, as the server reads it.
 use Rattle.std.specs.Prelude.{◌≡◌, ℕ, true, List, Some, Ok, All, IfSome}
-use Rattle.nutwords.specs.Text.{with_lf}
+use Rattle.nutwords.specs.SplitLine.{with_lf}
 use Rattle.nutdriver.specs.Sound.{IsSoundTree}
 use Rattle.nutdriver.specs.Tree.{variable_at}
 use Rattle.nutdriver.specs.Variable.{VariableState}

@@ -3,7 +3,7 @@ use Rattle.std.specs.Prelude.{◌≡◌, ℕ, true, List, [], ◌∷◌, ◌++�
 use Rattle.nutwords.specs.Frame.{frame, line_of}
 use Rattle.nutwords.specs.Reading.{is_ups_name}
 use Rattle.nutwords.specs.Spelling.{quoted}
-use Rattle.nutwords.specs.Text.{with_lf}
+use Rattle.nutwords.specs.SplitLine.{with_lf}
 use Rattle.nutdriver.specs.Variable.{VariableState}
 use Rattle.nutcommand.specs.Command.{read_command}
 use Rattle.nutcommand.specs.declared.command.Command.TheVariants as commands

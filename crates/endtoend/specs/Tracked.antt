@@ -9,7 +9,7 @@ use Rattle.nuttracking.specs.Sound.{HaveLawfulNumbers}
 use Rattle.nuttracking.specs.Tracking.{next_id, with_order, progress_of}
 use Rattle.nuttracking.specs.declared.order.Progress.{Progress}
 use Rattle.nutusers.specs.declared.ups_list.UpsId.{UpsId}
-use Rattle.nutlisting.specs.Tracked.{progress_words}
+use Rattle.nutlisting.specs.Lines.{progress_words}
 use Rattle.nutanswer.specs.Checks.{KnownUps, ups_named}
 use Rattle.nutcommand.specs.ErrWord.{spelling_of}
 use Rattle.nutanswer.specs.Orders.{set_line, instcmd_line, ok_words}

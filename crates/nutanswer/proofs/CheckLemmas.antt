@@ -13,9 +13,9 @@ use Rattle.nutcommand.specs.declared.err_word.ErrWord.TheVariants.{AccessDenied,
 use Rattle.nutcommand.specs.declared.err_word.ErrWord.TheVariants.{UsernameRequired, PasswordRequired}
 use Rattle.nutcommand.specs.declared.err_word.ErrWord.TheVariants.{VarNotSupported}
 use Rattle.nutanswer.specs.View.{Seen, AskerSeen, Readiness, usable, readiness}
-use Rattle.nutanswer.specs.Checks.{◌>>=◌, ◌>>◌, unless, KnownUps, ups_named, unknown_ups}
+use Rattle.nutanswer.specs.Checks.{◌>>=◌, ◌>>◌, unless, KnownUps, ups_named, known_ups}
 use Rattle.nutanswer.specs.Checks.{ready, live, driver_not_connected, data_stale, user}
-use Rattle.nutanswer.specs.Checks.{access_denied, var_not_supported, first_id, no_id}
+use Rattle.nutanswer.specs.Checks.{access_denied, known_variable, first_id, order_id}
 use Rattle.nutanswer.specs.Answer.{Answer}
 use Rattle.nutanswer.specs.Rows.{HasRight, IsIdOfOrder}
 
@@ -75,7 +75,7 @@ module _ (P : Result Answer ErrWord → Type 0) (no : (word : ErrWord) → P (Er
   -- of the id of an order, where there is one for it
   pub with_id : (s : Seen) (asker : AskerSeen) (word : ErrWord)
       (next : Option ℕ → Result Answer ErrWord) →
-      ((id : Option ℕ) → IsIdOfOrder s asker id → P (next id)) → P (no_id s asker word >>= next)
+      ((id : Option ℕ) → IsIdOfOrder s asker id → P (next id)) → P (order_id s asker word >>= next)
   with_id s asker word next h = by_flag asker.tracking (next_id s.tracking) refl refl
     where
       by_flag : (on : Bool) (o : Option ℕ) → asker.tracking ≡ on → next_id s.tracking ≡
@@ -87,14 +87,14 @@ module _ (P : Result Answer ErrWord → Type 0) (no : (word : ErrWord) → P (Er
   module _ (s : Seen) (ups : Option (List ℕ)) where
     -- of a UPS that is there
     pub of_ups : (next : KnownUps → Result Answer ErrWord) →
-        ((u : KnownUps) → ups_named s ups ≡ Some u → P (next u)) → P (unknown_ups s ups >>= next)
-    of_ups next h = found (unknown_ups s ups) next (λ u is. h u (ok_found (ups_named s ups) UnknownUps u is))
+        ((u : KnownUps) → ups_named s ups ≡ Some u → P (next u)) → P (known_ups s ups >>= next)
+    of_ups next h = found (known_ups s ups) next (λ u is. h u (ok_found (ups_named s ups) UnknownUps u is))
 
     -- and is usable
     pub of_usable : (next : KnownUps → Result Answer ErrWord)
         → ((u : KnownUps) → ups_named s ups ≡ Some u →
         readiness s.moment s.max_age u.state.report ≡ usable → P (next u)) →
-        P (unknown_ups s ups >>= (λ u. live s u >> next u))
+        P (known_ups s ups >>= (λ u. live s u >> next u))
     of_usable next h = of_ups (λ u. live s u >> next u)
         (λ u named. held (live s u) (next u) (λ going. h u named (is_usable (ready s u) going)))
 
@@ -103,9 +103,9 @@ module _ (P : Result Answer ErrWord → Type 0) (no : (word : ErrWord) → P (Er
         → ((u : KnownUps) (x : VariableState) → ups_named s ups ≡ Some u →
         readiness s.moment s.max_age u.state.report ≡ usable →
         variable_at u.state.report.tree name ≡ Some x → P (next u (name, x)))
-        → P (unknown_ups s ups >>= (λ u. live s u >> (var_not_supported u (Some name) >>= next u)))
+        → P (known_ups s ups >>= (λ u. live s u >> (known_variable u (Some name) >>= next u)))
     of_variable name next h =
-        of_usable (λ u. var_not_supported u (Some name) >>= next u)
+        of_usable (λ u. known_variable u (Some name) >>= next u)
         (λ u named going. looked_up u (variable_at u.state.report.tree name) (λ x there. h u x named going there))
       where
         looked_up : (u : KnownUps) (o : Option VariableState) →

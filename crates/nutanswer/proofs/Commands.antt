@@ -34,8 +34,8 @@ use Rattle.nutcommand.specs.ErrWord.{error_line}
 use Rattle.nutanswer.specs.View.{Seen, AskerSeen, usable, readiness}
 use Rattle.nutanswer.specs.Checks.{◌>>=◌, ◌>>◌, KnownUps, ups_named, user, var_not_lawful}
 use Rattle.nutanswer.specs.Checks.{cmd_not_lawful, already_set_username, already_set_password}
-use Rattle.nutanswer.specs.Checks.{already_logged_in, readonly, too_long_of_command, invalid_value}
-use Rattle.nutanswer.specs.Checks.{no_id, set_failed, instcmd_failed, unknown_id, cmd_not_supported}
+use Rattle.nutanswer.specs.Checks.{already_logged_in, readonly, command_value, invalid_value}
+use Rattle.nutanswer.specs.Checks.{order_id, set_failed, instcmd_failed, kept_progress, known_command}
 use Rattle.nutanswer.specs.Orders.{is_short_enough, is_listed, is_in_ranges, right_to, set_line}
 use Rattle.nutanswer.specs.Orders.{instcmd_line, order, ok_words, instcmd_right}
 use Rattle.nutanswer.specs.Answer.{Answer, one_line, ok, description_at, answer_to, change_of_answer, text_of_answer}
@@ -116,8 +116,8 @@ module _ (P : Result Answer ErrWord → Type 0) (no : (word : ErrWord) → P (Er
       by_value : (value : Option (List ℕ)) (u : KnownUps) →
           ((id : Option ℕ) → IsIdOfOrder s asker id → length (instcmd_line name value id) ≤
           u.state.free → P (Ok (one_line (ok_words id) (order u.id (instcmd_line name value id) id))))
-          → P (too_long_of_command (value_given value) >>=
-          (λ v. no_id s asker InstcmdFailed >>=
+          → P (command_value (value_given value) >>=
+          (λ v. order_id s asker InstcmdFailed >>=
           (λ id. instcmd_failed u (instcmd_line name v id) >> Ok
           (one_line (ok_words id) (order u.id (instcmd_line name v id) id)))))
       by_value None u h = checks.with_id P no s asker InstcmdFailed _
@@ -213,7 +213,7 @@ module _ (s : Seen) (asker : AskerSeen) where
   row (InstCmd ups None word) = held (user s asker (right_to [])) (λ right. of_usable ups (λ u named. refused _))
   row (InstCmd ups (Some name) (Some None)) =
       held (user s asker (right_to name))
-      (λ right. of_usable ups (λ u named. found (cmd_not_supported u (Some name)) (λ c is. refused _)))
+      (λ right. of_usable ups (λ u named. found (known_command u (Some name)) (λ c is. refused _)))
   row (InstCmd ups (Some name) None) =
       command_row (IsRow s asker (InstCmd ups (Some name) None)) refused s asker ups name None
       (commanded s asker ups name None)
@@ -282,7 +282,7 @@ module _ (s : Seen) (asker : AskerSeen) where
   row (GetNumLogins ups) = of_ups ups (λ u named. tells _ refl (λ seen h. (refl, count_plain s seen ups u h named)))
   row (GetNumAttach ups) = of_ups ups (λ u named. tells _ refl (λ seen h. (refl, count_plain s seen ups u h named)))
   row GetTracking = tells _ refl (λ seen h. (refl, (on_or_off_plain asker.tracking, tt)))
-  row (GetProgress id) = found (unknown_id s id)
+  row (GetProgress id) = found (kept_progress s id)
       (λ k is. tells _ refl (λ seen h.
       (refl, (ids_are_lawful.lawful k.0, progress_plain k.1 (progress_found s id k seen.numbers is)))))
   row ListUps = lists _ (λ seen h. listing_shaped (codes "UPS") [] _ (refl, tt)

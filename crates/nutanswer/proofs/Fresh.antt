@@ -5,7 +5,7 @@ use Rattle.std.proofs.lemmas.Bool.Decides.{nat_tests}
 use Rattle.nutdriver.specs.declared.report.Report.{Report}
 use Rattle.nutcommand.specs.declared.err_word.ErrWord.{ErrWord}
 use Rattle.nutanswer.specs.View.{Seen, readiness, usable, not_connected, stale}
-use Rattle.nutanswer.specs.Checks.{◌>>=◌, ◌>>◌, KnownUps, ups_named, unknown_ups, live}
+use Rattle.nutanswer.specs.Checks.{◌>>=◌, ◌>>◌, KnownUps, ups_named, known_ups, live}
 use Rattle.nutanswer.specs.Answer.{Answer}
 use Rattle.nutanswer.specs.Laws.{IsFresh}
 use Rattle.nutanswer.proofs.CheckLemmas.{of_usable}
@@ -46,7 +46,7 @@ module _ (s : Seen) (ups : Option (List ℕ)) where
       (u, named, record { connected = is.connected; dumped = is.dumped; ok = is.ok; heard = is.heard })
 
   pub row : (next : KnownUps → Result Answer ErrWord) →
-      AnswersFresh (unknown_ups s ups >>= (λ u. live s u >> next u))
+      AnswersFresh (known_ups s ups >>= (λ u. live s u >> next u))
   row next = of_usable AnswersFresh no_answer s ups next (λ u named going. fresh u (next u) named going)
 
 pub moved : (s : Seen) (ups other : Option (List ℕ)) (r : Result Answer ErrWord) → Some ups ≡

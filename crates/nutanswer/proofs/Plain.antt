@@ -15,7 +15,7 @@ use Rattle.nutdriver.specs.declared.limits.TheConstants.{NUMBER_LIMIT}
 use Rattle.nutlisting.specs.Lawful.{IsLawfulText}
 use Rattle.nutlisting.specs.Lines.{IsWholeLine}
 use Rattle.nutlisting.specs.Types.{word_if, else_number, type_words}
-use Rattle.nutlisting.specs.Tracked.{progress_words}
+use Rattle.nutlisting.specs.Lines.{progress_words}
 use Rattle.nutlisting.proofs.PublicLaws.{ids_are_lawful, texts_are_lawful, lawful_words_are_a_line}
 use Rattle.nuttracking.specs.Id.{id_text}
 use Rattle.nuttracking.specs.Sound.{IsLawfulProgress}

@@ -7,9 +7,9 @@ use Rattle.nutusers.specs.declared.rights.Right.TheVariants.{Set}
 use Rattle.nutanswer.specs.View.{Seen, AskerSeen}
 use Rattle.nutcommand.specs.declared.command.Command.TheVariants.{SetVar, InstCmd}
 use Rattle.nutanswer.specs.Answer.{Answer, answer_to, one_line}
-use Rattle.nutanswer.specs.Checks.{◌>>=◌, ◌>>◌, KnownUps, user, unknown_ups, live}
-use Rattle.nutanswer.specs.Checks.{var_not_supported, cmd_not_supported, readonly, too_long}
-use Rattle.nutanswer.specs.Checks.{too_long_of_command, invalid_value, no_id, set_failed}
+use Rattle.nutanswer.specs.Checks.{◌>>=◌, ◌>>◌, KnownUps, user, known_ups, live}
+use Rattle.nutanswer.specs.Checks.{known_variable, known_command, readonly, settable_value}
+use Rattle.nutanswer.specs.Checks.{command_value, invalid_value, order_id, set_failed}
 use Rattle.nutanswer.specs.Checks.{instcmd_failed}
 use Rattle.nutanswer.specs.Orders.{set_line, instcmd_line, instcmd_right, order, ok_words}
 use Rattle.nutanswer.specs.Promises.{live_ups, live_variable, live_command, settable, Gives, GivesLine, GivesListing}
@@ -49,15 +49,15 @@ after_test m both first next h = grind arith
 row_of_variable : {A : Type 0} (s : Seen) (ups name : Option (List ℕ))
     (next : KnownUps → List ℕ → VariableState → Result A ErrWord)
     →
-    (unknown_ups s ups >>= (λ u. live s u >>
-    (var_not_supported u name >>= (λ v. next u v.0 v.1)))) ≡ (live_variable s ups name >>= (λ k. next k.0 k.1 k.2))
+    (known_ups s ups >>= (λ u. live s u >>
+    (known_variable u name >>= (λ v. next u v.0 v.1)))) ≡ (live_variable s ups name >>= (λ k. next k.0 k.1 k.2))
 row_of_variable s ups name next =
-    after_check (unknown_ups s ups) (λ u. live s u >>
-    (var_not_supported u name >>= (λ v. next u v.0 v.1)))
-    (λ u. live s u >> (var_not_supported u name >>= (λ v. Ok (u, v.0, v.1)))) (λ k. next k.0 k.1 k.2)
-    (λ u. after_test (live s u) (var_not_supported u name >>= (λ v. next u v.0 v.1))
-    (var_not_supported u name >>= (λ v. Ok (u, v.0, v.1))) (λ k. next k.0 k.1 k.2)
-    (after_check (var_not_supported u name) (λ v. next u v.0 v.1) (λ v. Ok (u, v.0, v.1))
+    after_check (known_ups s ups) (λ u. live s u >>
+    (known_variable u name >>= (λ v. next u v.0 v.1)))
+    (λ u. live s u >> (known_variable u name >>= (λ v. Ok (u, v.0, v.1)))) (λ k. next k.0 k.1 k.2)
+    (λ u. after_test (live s u) (known_variable u name >>= (λ v. next u v.0 v.1))
+    (known_variable u name >>= (λ v. Ok (u, v.0, v.1))) (λ k. next k.0 k.1 k.2)
+    (after_check (known_variable u name) (λ v. next u v.0 v.1) (λ v. Ok (u, v.0, v.1))
     (λ k. next k.0 k.1 k.2) (λ v. refl)))
 
 module _ {A : Type 0} (s : Seen) (ups name : Option (List ℕ))
@@ -65,45 +65,45 @@ module _ {A : Type 0} (s : Seen) (ups name : Option (List ℕ))
   -- what comes after these checks gets what they found
   pub with_variable : (k : KnownUps × List ℕ × VariableState) → Ok k ≡ live_variable s ups name
       →
-      (unknown_ups s ups >>= (λ u. live s u >>
-      (var_not_supported u name >>= (λ v. next u v.0 v.1)))) ≡ next k.0 k.1 k.2
+      (known_ups s ups >>= (λ u. live s u >>
+      (known_variable u name >>= (λ v. next u v.0 v.1)))) ≡ next k.0 k.1 k.2
   with_variable k e = row_of_variable s ups name next ∙ ap (λ r. r >>= (λ k. next k.0 k.1 k.2)) (sym e)
 
   -- and where one of them fails, the row fails so
   pub without_variable : (word : ErrWord) → Err word ≡ live_variable s ups name
-      → (unknown_ups s ups >>= (λ u. live s u >> (var_not_supported u name >>= (λ v. next u v.0 v.1)))) ≡ Err word
+      → (known_ups s ups >>= (λ u. live s u >> (known_variable u name >>= (λ v. next u v.0 v.1)))) ≡ Err word
   without_variable word e = row_of_variable s ups name next ∙ ap (λ r. r >>= (λ k. next k.0 k.1 k.2)) (sym e)
 
 -- the checks of a live UPS: where one of them fails, the row fails so
 pub without_ups : {A : Type 0} (s : Seen) (ups : Option (List ℕ))
     (next : KnownUps → Result A ErrWord) (word : ErrWord) → Err word ≡ live_ups s ups
-    → (unknown_ups s ups >>= (λ u. live s u >> next u)) ≡ Err word
+    → (known_ups s ups >>= (λ u. live s u >> next u)) ≡ Err word
 without_ups s ups next word e =
-    after_check (unknown_ups s ups) (λ u. live s u >> next u) (λ u. live s u >> Ok u) next
+    after_check (known_ups s ups) (λ u. live s u >> next u) (λ u. live s u >> Ok u) next
     (λ u. after_test (live s u) (next u) (Ok u) next refl)
     ∙ ap (λ r. r >>= next) (sym e)
 
 -- the checks of a command of a live UPS
 row_of_command : {A : Type 0} (s : Seen) (ups name : Option (List ℕ))
     (next : KnownUps → List ℕ → Result A ErrWord)
-    → (unknown_ups s ups >>= (λ u. live s u >> (cmd_not_supported u name >>= (λ c. next u c))))
+    → (known_ups s ups >>= (λ u. live s u >> (known_command u name >>= (λ c. next u c))))
     ≡ (live_command s ups name >>= (λ k. next k.0 k.1))
 row_of_command s ups name next =
-    after_check (unknown_ups s ups) (λ u. live s u >>
-    (cmd_not_supported u name >>= (λ c. next u c)))
-    (λ u. live s u >> (cmd_not_supported u name >>= (λ c. Ok (u, c)))) (λ k. next k.0 k.1)
-    (λ u. after_test (live s u) (cmd_not_supported u name >>= (λ c. next u c))
-    (cmd_not_supported u name >>= (λ c. Ok (u, c))) (λ k. next k.0 k.1)
-    (after_check (cmd_not_supported u name) (λ c. next u c) (λ c. Ok (u, c)) (λ k. next k.0 k.1) (λ c. refl)))
+    after_check (known_ups s ups) (λ u. live s u >>
+    (known_command u name >>= (λ c. next u c)))
+    (λ u. live s u >> (known_command u name >>= (λ c. Ok (u, c)))) (λ k. next k.0 k.1)
+    (λ u. after_test (live s u) (known_command u name >>= (λ c. next u c))
+    (known_command u name >>= (λ c. Ok (u, c))) (λ k. next k.0 k.1)
+    (after_check (known_command u name) (λ c. next u c) (λ c. Ok (u, c)) (λ k. next k.0 k.1) (λ c. refl)))
 
 -- the checks of a value that a variable is to be set to
 row_of_value : {A : Type 0} (x : VariableState) (word : Option (List ℕ)) (next : List ℕ → Result A ErrWord)
-    → (readonly x >> (too_long x word >>= (λ value. invalid_value x value >> next value))) ≡
+    → (readonly x >> (settable_value x word >>= (λ value. invalid_value x value >> next value))) ≡
     (settable x word >>= next)
 row_of_value x word next =
-    after_test (readonly x) (too_long x word >>= (λ value. invalid_value x value >> next value))
-    (too_long x word >>= (λ value. invalid_value x value >> Ok value)) next
-    (after_check (too_long x word) (λ value. invalid_value x value >> next value)
+    after_test (readonly x) (settable_value x word >>= (λ value. invalid_value x value >> next value))
+    (settable_value x word >>= (λ value. invalid_value x value >> Ok value)) next
+    (after_check (settable_value x word) (λ value. invalid_value x value >> next value)
     (λ value. invalid_value x value >> Ok value) next
     (λ value. after_test (invalid_value x value) (next value) (Ok value) next refl))
 
@@ -113,19 +113,19 @@ pub settable_is : (x : VariableState) (word : Option (List ℕ)) (value : List �
 settable_is x word value h = given (readonly x) (λ v. invalid_value x v) h
   where
     given : (first : Result (Unit {0}) ErrWord) (last : List ℕ → Result (Unit {0}) ErrWord) →
-        Ok value ≡ (first >> (too_long x word >>= (λ v. last v >> Ok v))) → word ≡ Some value
+        Ok value ≡ (first >> (settable_value x word >>= (λ v. last v >> Ok v))) → word ≡ Some value
     given first last h = grind arith
 
 -- the end of SET VAR: the id that it uses, and the line, which fits and is owed
 abbrev pub set_end : Seen → AskerSeen → KnownUps → List ℕ → List ℕ → Result Answer ErrWord
 set_end s asker u v value =
-    no_id s asker SetFailed >>= (λ id. set_failed u (set_line v value id) >> Ok
+    order_id s asker SetFailed >>= (λ id. set_failed u (set_line v value id) >> Ok
     (one_line (ok_words id) (order u.id (set_line v value id) id)))
 
 -- and of INSTCMD
 abbrev pub instcmd_end : Seen → AskerSeen → KnownUps → List ℕ → Option (List ℕ) → Result Answer ErrWord
 instcmd_end s asker u c value =
-    no_id s asker InstcmdFailed >>= (λ id. instcmd_failed u (instcmd_line c value id) >> Ok
+    order_id s asker InstcmdFailed >>= (λ id. instcmd_failed u (instcmd_line c value id) >> Ok
     (one_line (ok_words id) (order u.id (instcmd_line c value id) id)))
 
 module _ (s : Seen) (asker : AskerSeen) (ups name : Option (List ℕ)) where
@@ -135,7 +135,7 @@ module _ (s : Seen) (asker : AskerSeen) (ups name : Option (List ℕ)) where
       → answer_to s asker (SetVar ups name word) ≡ (settable k.2 word >>= (λ value. set_end s asker k.0 k.1 value))
   set_row word k h e =
       let next : KnownUps → List ℕ → VariableState → Result Answer ErrWord =
-      λ u v x. readonly x >> (too_long x word >>= (λ value. invalid_value x value >> set_end s asker u v value)) in
+      λ u v x. readonly x >> (settable_value x word >>= (λ value. invalid_value x value >> set_end s asker u v value)) in
       cc (h, with_variable s ups name next k e, row_of_value k.2 word (λ value. set_end s asker k.0 k.1 value))
 
   -- a variable that isn't there
@@ -144,16 +144,16 @@ module _ (s : Seen) (asker : AskerSeen) (ups name : Option (List ℕ)) where
       → (r : Result Reply ErrWord) → r ≡ Err why → Gives (answer_to s asker (SetVar ups name word)) r
   set_without word h why e r is =
       let next : KnownUps → List ℕ → VariableState → Result Answer ErrWord =
-      λ u v x. readonly x >> (too_long x word >>= (λ value. invalid_value x value >> set_end s asker u v value)) in
+      λ u v x. readonly x >> (settable_value x word >>= (λ value. invalid_value x value >> set_end s asker u v value)) in
       refused_by (answer_to s asker (SetVar ups name word)) why r (cc (h, without_variable s ups name next why e)) is
 
   -- INSTCMD, by the user's right and the checks of a command
   pub instcmd_row : (word : Option (Option (List ℕ))) → Ok tt ≡ user s asker (instcmd_right name)
       → answer_to s asker (InstCmd ups name word) ≡
-      (live_command s ups name >>= (λ k. too_long_of_command word >>= (λ value. instcmd_end s asker k.0 k.1 value)))
+      (live_command s ups name >>= (λ k. command_value word >>= (λ value. instcmd_end s asker k.0 k.1 value)))
   instcmd_row word h =
       let next : KnownUps → List ℕ → Result Answer ErrWord =
-      λ u c. too_long_of_command word >>= (λ value. instcmd_end s asker u c value) in
+      λ u c. command_value word >>= (λ value. instcmd_end s asker u c value) in
       cc (h, row_of_command s ups name next)
 
   module _ (word : Option (List ℕ)) (k : KnownUps × List ℕ × VariableState)
@@ -165,7 +165,7 @@ module _ (s : Seen) (asker : AskerSeen) (ups name : Option (List ℕ)) where
         refused_by (answer_to s asker (SetVar ups name word)) why r (cc (set_row word k h e, f)) is
 
     set_using : (value : List ℕ) → Ok value ≡ settable k.2 word →
-        (id : Result (Option ℕ) ErrWord) → id ≡ no_id s asker SetFailed
+        (id : Result (Option ℕ) ErrWord) → id ≡ order_id s asker SetFailed
         → answer_to s asker (SetVar ups name word) ≡
         (id >>= (λ id. set_failed k.0 (set_line k.1 value id) >> Ok
         (one_line (ok_words id) (order k.0.id (set_line k.1 value id) id))))
@@ -173,14 +173,14 @@ module _ (s : Seen) (asker : AskerSeen) (ups name : Option (List ℕ)) where
 
     -- there is no id
     pub set_without_id : (value : List ℕ) → Ok value ≡ settable k.2 word →
-        (why : ErrWord) → Err why ≡ no_id s asker SetFailed → (r : Result Reply ErrWord) → r ≡ Err why
+        (why : ErrWord) → Err why ≡ order_id s asker SetFailed → (r : Result Reply ErrWord) → r ≡ Err why
         → Gives (answer_to s asker (SetVar ups name word)) r
     set_without_id value f why g r is =
         refused_by (answer_to s asker (SetVar ups name word)) why r (set_using value f (Err why) g) is
 
     -- the line doesn't fit
     pub set_full : (value : List ℕ) → Ok value ≡ settable k.2 word → (id : Option ℕ) →
-        Ok id ≡ no_id s asker SetFailed → k.0.state.free < length (set_line k.1 value id)
+        Ok id ≡ order_id s asker SetFailed → k.0.state.free < length (set_line k.1 value id)
         → answer_to s asker (SetVar ups name word) ≡ Err SetFailed
     set_full value f id g more = cc (
       set_using value f (Ok id) g,
@@ -189,7 +189,7 @@ module _ (s : Seen) (asker : AskerSeen) (ups name : Option (List ℕ)) where
 
     -- the driver is owed the line
     pub set_done : (value : List ℕ) → Ok value ≡ settable k.2 word → (id : Option ℕ) →
-        Ok id ≡ no_id s asker SetFailed → length (set_line k.1 value id) ≤ k.0.state.free
+        Ok id ≡ order_id s asker SetFailed → length (set_line k.1 value id) ≤ k.0.state.free
         → answer_to s asker (SetVar ups name word) ≡
         Ok (one_line (ok_words id) (order k.0.id (set_line k.1 value id) id))
     set_done value f id g fits = cc (

@@ -42,7 +42,7 @@ use Rattle.nutcommand.specs.declared.err_word.ErrWord.{ErrWord}
 use Rattle.nutcommand.specs.declared.err_word.ErrWord.TheVariants.{VarNotSupported, InvalidArgument}
 use Rattle.nutcommand.specs.ErrWord.{spelling_of}
 use Rattle.nutanswer.specs.View.{Seen, UpsSeen, ClientSeen, is_logged_in, login_count, addresses_at}
-use Rattle.nutanswer.specs.Checks.{KnownUps, ups_named, variable_named, var_not_supported, unknown_id}
+use Rattle.nutanswer.specs.Checks.{KnownUps, ups_named, variable_named, known_variable, kept_progress}
 use Rattle.nutanswer.specs.Orders.{ok_words, on_or_off_word}
 use Rattle.nutanswer.specs.Answer.{Answer, ok, text_of_answer, description_at}
 use Rattle.nutcommand.specs.Command.{HasLawfulName, HasLawfulUpsName}
@@ -112,7 +112,7 @@ found_all P test (x ∷ xs) all =
     (λ e. found_all P test xs (All-tail P x xs all))
 
 pub progress_found : (s : Seen) (id : Option ℕ) (k : ℕ × Progress) →
-    HaveLawfulNumbers s.tracking.orders → unknown_id s id ≡ Ok k → IsLawfulProgress k.1
+    HaveLawfulNumbers s.tracking.orders → kept_progress s id ≡ Ok k → IsLawfulProgress k.1
 progress_found s None k numbers e = cc e
 progress_found s (Some id) k numbers e =
     by_found (find (has_id id) s.tracking.orders)
@@ -261,7 +261,7 @@ module _ (s : Seen) (seen : IsLawfulSeen s) where
   -- of a variable that is found
   pub lawful_found : (ups name : Option (List ℕ)) (u : KnownUps) (v : List ℕ × VariableState)
       → HasLawfulUpsName ups × HasLawfulName name → ups_named s ups ≡ Some u →
-      var_not_supported u name ≡ Ok v → IsLawfulFound u v
+      known_variable u name ≡ Ok v → IsLawfulFound u v
   lawful_found ups name u v h named is =
       let k = lawful_known ups u h.0 named in
       let there = variable_found u.state.report.tree name v is in

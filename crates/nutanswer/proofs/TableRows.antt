@@ -14,7 +14,7 @@ use Rattle.nutcommand.specs.declared.err_word.ErrWord.{ErrWord}
 use Rattle.nutanswer.specs.declared.reply.Change.{Change}
 use Rattle.nutanswer.specs.declared.reply.Change.TheVariants.{Nothing}
 use Rattle.nutanswer.specs.View.{Seen, AskerSeen}
-use Rattle.nutanswer.specs.Checks.{◌>>=◌, ◌>>◌, KnownUps, ups_named, unknown_ups, live, var_not_supported}
+use Rattle.nutanswer.specs.Checks.{◌>>=◌, ◌>>◌, KnownUps, ups_named, known_ups, live, known_variable}
 use Rattle.nutanswer.specs.Orders.{order, ok_words}
 use Rattle.nutanswer.specs.Answer.{Answer, one_line, listing, listing_of_clients, in_one_line}
 use Rattle.nutanswer.specs.Answer.{answer_to, change_of_answer, text_of_answer}
@@ -81,17 +81,17 @@ module _ {s : Seen} {asker : AskerSeen} {command : Command} where
 
   pub of_ups : (ups : Option (List ℕ)) {next : KnownUps → Result Answer ErrWord} →
       ((u : KnownUps) → ups_named s ups ≡ Some u → IsRow s asker command (next u)) →
-      IsRow s asker command (unknown_ups s ups >>= next)
+      IsRow s asker command (known_ups s ups >>= next)
   of_ups ups {next} h = checks.of_ups (IsRow s asker command) refused s ups next h
 
   pub of_usable : (ups : Option (List ℕ)) {next : KnownUps → Result Answer ErrWord} →
       ((u : KnownUps) → ups_named s ups ≡ Some u → IsRow s asker command (next u)) →
-      IsRow s asker command (unknown_ups s ups >>= (λ u. live s u >> next u))
+      IsRow s asker command (known_ups s ups >>= (λ u. live s u >> next u))
   of_usable ups {next} h = checks.of_usable (IsRow s asker command) refused s ups next (λ u named going. h u named)
 
   pub of_variable : (ups name : Option (List ℕ))
       {next : KnownUps → List ℕ × VariableState → Result Answer ErrWord}
       → ((u : KnownUps) (v : List ℕ × VariableState) → ups_named s ups ≡ Some u →
-      var_not_supported u name ≡ Ok v → IsRow s asker command (next u v))
-      → IsRow s asker command (unknown_ups s ups >>= (λ u. live s u >> (var_not_supported u name >>= next u)))
-  of_variable ups name {next} h = of_usable ups (λ u named. found (var_not_supported u name) (λ v is. h u v named is))
+      known_variable u name ≡ Ok v → IsRow s asker command (next u v))
+      → IsRow s asker command (known_ups s ups >>= (λ u. live s u >> (known_variable u name >>= next u)))
+  of_variable ups name {next} h = of_usable ups (λ u named. found (known_variable u name) (λ v is. h u v named is))

@@ -34,14 +34,14 @@ use Rattle.nutlisting.specs.Lines.{IsWholeLine}
 use Rattle.nutanswer.specs.View.{Seen, AskerSeen, login_count, addresses_at}
 use Rattle.nutlisting.specs.Shown.{shown, description_of, text_or_unavailable}
 use Rattle.nutlisting.specs.Types.{type_words}
-use Rattle.nutlisting.specs.Tracked.{progress_words}
+use Rattle.nutlisting.specs.Lines.{progress_words}
 use Rattle.nutlisting.specs.Items.{ListingState, text_of, ups_listing, variable_listing, rw_listing}
 use Rattle.nutlisting.specs.Items.{command_listing, enum_listing, range_listing, client_listing}
-use Rattle.nutanswer.specs.Checks.{◌>>=◌, ◌>>◌, user, unknown_ups, live, var_not_supported}
-use Rattle.nutanswer.specs.Checks.{var_not_lawful, cmd_not_lawful, cmd_not_supported}
+use Rattle.nutanswer.specs.Checks.{◌>>=◌, ◌>>◌, user, known_ups, live, known_variable}
+use Rattle.nutanswer.specs.Checks.{var_not_lawful, cmd_not_lawful, known_command}
 use Rattle.nutanswer.specs.Checks.{already_set_username, already_set_password, already_logged_in}
-use Rattle.nutanswer.specs.Checks.{invalid_argument, readonly, too_long, too_long_of_command}
-use Rattle.nutanswer.specs.Checks.{invalid_value, no_id, set_failed, instcmd_failed, unknown_id}
+use Rattle.nutanswer.specs.Checks.{invalid_argument, readonly, settable_value, command_value}
+use Rattle.nutanswer.specs.Checks.{invalid_value, order_id, set_failed, instcmd_failed, kept_progress}
 use Rattle.nutanswer.specs.Orders.{instcmd_right, set_line, instcmd_line, order}
 use Rattle.nutanswer.specs.Orders.{ok_words, on_or_off_word}
 
@@ -66,7 +66,7 @@ help_text = codes "Commands: HELP VER NETVER PROTVER GET LIST SET INSTCMD LOGIN 
 -- How many sessions are logged in to a UPS, in a line that begins with this word.
 abbrev pub count_of_logins : List ℕ → Seen → Option (List ℕ) → Result Answer ErrWord
 count_of_logins kind s ups = do
-  u ← unknown_ups s ups
+  u ← known_ups s ups
   in_one_line (kind ∷ u.name ∷ decimal (login_count u.id s.clients) ∷ [])
 
 -- The description of a UPS of the list, if it has one.
@@ -85,93 +85,93 @@ answer_to s asker (Password word) = do
   Ok (one_line ok (changes.Password password))
 answer_to s asker (Login ups) = do
   user s asker rights.Login
-  u ← unknown_ups s ups
+  u ← known_ups s ups
   already_logged_in asker
   Ok (one_line ok (changes.Login u.id))
 answer_to s asker Logout = Ok (one_line (codes "OK" ∷ codes "Goodbye" ∷ []) changes.Ending)
 answer_to s asker (Primary ups) = do
   user s asker rights.Primary
-  _ ← unknown_ups s ups
+  _ ← known_ups s ups
   in_one_line ok
 answer_to s asker (Fsd ups) = do
   user s asker rights.Fsd
-  u ← unknown_ups s ups
+  u ← known_ups s ups
   Ok (one_line (codes "OK" ∷ codes "FSD-SET" ∷ []) (changes.Fsd u.id))
 answer_to s asker (SetVar ups name word) = do
   user s asker rights.Set
-  u ← unknown_ups s ups
+  u ← known_ups s ups
   live s u
-  (v, x) ← var_not_supported u name
+  (v, x) ← known_variable u name
   readonly x
-  value ← too_long x word
+  value ← settable_value x word
   invalid_value x value
-  id ← no_id s asker SetFailed
+  id ← order_id s asker SetFailed
   set_failed u (set_line v value id)
   Ok (one_line (ok_words id) (order u.id (set_line v value id) id))
 answer_to s asker (InstCmd ups name word) = do
   user s asker (instcmd_right name)
-  u ← unknown_ups s ups
+  u ← known_ups s ups
   live s u
-  c ← cmd_not_supported u name
-  value ← too_long_of_command word
-  id ← no_id s asker InstcmdFailed
+  c ← known_command u name
+  value ← command_value word
+  id ← order_id s asker InstcmdFailed
   instcmd_failed u (instcmd_line c value id)
   Ok (one_line (ok_words id) (order u.id (instcmd_line c value id) id))
 answer_to s asker (SetTracking on) = Ok (one_line ok (changes.Tracking on))
 answer_to s asker (GetVar ups name) = do
-  u ← unknown_ups s ups
+  u ← known_ups s ups
   live s u
-  (v, x) ← var_not_supported u name
+  (v, x) ← known_variable u name
   in_one_line (codes "VAR" ∷ u.name ∷ v ∷ quoted (shown u.state.fsd v x) ∷ [])
 answer_to s asker (GetType ups name) = do
-  u ← unknown_ups s ups
+  u ← known_ups s ups
   live s u
-  (v, x) ← var_not_supported u name
+  (v, x) ← known_variable u name
   in_one_line (codes "TYPE" ∷ u.name ∷ v ∷ type_words x)
 answer_to s asker (GetDesc ups name) = do
-  u ← unknown_ups s ups
+  u ← known_ups s ups
   v ← var_not_lawful name
   in_one_line (codes "DESC" ∷ u.name ∷ v
       ∷ quoted (description_of (text_at s.descriptions.vars v)) ∷ [])
 answer_to s asker (GetCmdDesc ups name) = do
-  u ← unknown_ups s ups
+  u ← known_ups s ups
   c ← cmd_not_lawful name
   in_one_line (codes "CMDDESC" ∷ u.name ∷ c
       ∷ quoted (description_of (text_at s.descriptions.cmds c)) ∷ [])
 answer_to s asker (GetUpsDesc ups) = do
-  u ← unknown_ups s ups
+  u ← known_ups s ups
   in_one_line (codes "UPSDESC" ∷ u.name ∷ quoted (text_or_unavailable (description_at s u.id)) ∷ [])
 answer_to s asker (GetNumLogins ups) = count_of_logins (codes "NUMLOGINS") s ups
 answer_to s asker (GetNumAttach ups) = count_of_logins (codes "NUMATTACH") s ups
 answer_to s asker GetTracking = in_one_line (codes "TRACKING" ∷ on_or_off_word asker.tracking ∷ [])
 answer_to s asker (GetProgress id) = do
-  (i, progress) ← unknown_id s id
+  (i, progress) ← kept_progress s id
   in_one_line (codes "TRACKING" ∷ id_text i ∷ progress_words progress)
 answer_to s asker ListUps = Ok (listing (ups_listing s.list))
 answer_to s asker (ListVar ups) = do
-  u ← unknown_ups s ups
+  u ← known_ups s ups
   live s u
   Ok (listing (variable_listing u.name u.state.fsd u.state.report.tree.variables))
 answer_to s asker (ListRw ups) = do
-  u ← unknown_ups s ups
+  u ← known_ups s ups
   live s u
   Ok (listing (rw_listing u.name u.state.fsd u.state.report.tree.variables))
 answer_to s asker (ListCmd ups) = do
-  u ← unknown_ups s ups
+  u ← known_ups s ups
   live s u
   Ok (listing (command_listing u.name u.state.report.tree.commands))
 answer_to s asker (ListEnum ups name) = do
-  u ← unknown_ups s ups
+  u ← known_ups s ups
   live s u
-  (v, x) ← var_not_supported u name
+  (v, x) ← known_variable u name
   Ok (listing (enum_listing u.name v (Some x)))
 answer_to s asker (ListRange ups name) = do
-  u ← unknown_ups s ups
+  u ← known_ups s ups
   live s u
-  (v, x) ← var_not_supported u name
+  (v, x) ← known_variable u name
   Ok (listing (range_listing u.name v (Some x)))
 answer_to s asker (ListClient ups) = do
-  u ← unknown_ups s ups
+  u ← known_ups s ups
   Ok (listing_of_clients (client_listing u.name (addresses_at u.id s.clients)))
 answer_to s asker Help = in_one_line (help_text ∷ [])
 answer_to s asker Ver = in_one_line (codes "Network UPS Tools upsd, profile 1" ∷ [])

@@ -61,8 +61,8 @@ abbrev pub ups_named : Seen → Option (List ℕ) → Option KnownUps
 ups_named s None = None
 ups_named s (Some name) = option_and_then (ups_at s name) (place_of name s.list)
 
-abbrev pub unknown_ups : Seen → Option (List ℕ) → Result KnownUps ErrWord
-unknown_ups s name = ok_or (ups_named s name) UnknownUps
+abbrev pub known_ups : Seen → Option (List ℕ) → Result KnownUps ErrWord
+known_ups s name = ok_or (ups_named s name) UnknownUps
 
 abbrev pub driver_not_connected : Readiness → Result (Unit {0}) ErrWord
 driver_not_connected not_connected = Err DriverNotConnected
@@ -89,8 +89,8 @@ abbrev pub variable_named : TreeState → Option (List ℕ) → Option (List ℕ
 variable_named tree None = None
 variable_named tree (Some name) = option_map (λ v. (name, v)) (variable_at tree name)
 
-abbrev pub var_not_supported : KnownUps → Option (List ℕ) → Result (List ℕ × VariableState) ErrWord
-var_not_supported u name = ok_or (variable_named u.state.report.tree name) VarNotSupported
+abbrev pub known_variable : KnownUps → Option (List ℕ) → Result (List ℕ × VariableState) ErrWord
+known_variable u name = ok_or (variable_named u.state.report.tree name) VarNotSupported
 
 -- The word is no lawful name, as of GET DESC, which doesn't look for it in what the driver has
 -- reported.
@@ -131,8 +131,8 @@ abbrev pub invalid_argument : Option (List ℕ) → Result (List ℕ) ErrWord
 invalid_argument word = ok_or word InvalidArgument
 
 -- The name of a command that the driver has reported.
-abbrev pub cmd_not_supported : KnownUps → Option (List ℕ) → Result (List ℕ) ErrWord
-cmd_not_supported u name = do
+abbrev pub known_command : KnownUps → Option (List ℕ) → Result (List ℕ) ErrWord
+known_command u name = do
   c ← cmd_not_lawful name
   unless (has_command u.state.report.tree c) CmdNotSupported
   Ok c
@@ -142,17 +142,17 @@ abbrev pub readonly : VariableState → Result (Unit {0}) ErrWord
 readonly x = unless x.flags.rw Readonly
 
 -- A value as long as the variable may have. The word is none where it has more than 512 bytes.
-abbrev pub too_long : VariableState → Option (List ℕ) → Result (List ℕ) ErrWord
-too_long x word = do
+abbrev pub settable_value : VariableState → Option (List ℕ) → Result (List ℕ) ErrWord
+settable_value x word = do
   value ← ok_or word TooLong
   unless (is_short_enough x value) TooLong
   Ok value
 
 -- The value of a command, which may be left out. The word is none where it has more than 512 bytes.
-abbrev pub too_long_of_command : Option (Option (List ℕ)) → Result (Option (List ℕ)) ErrWord
-too_long_of_command None = Ok None
-too_long_of_command (Some None) = Err TooLong
-too_long_of_command (Some (Some value)) = Ok (Some value)
+abbrev pub command_value : Option (Option (List ℕ)) → Result (Option (List ℕ)) ErrWord
+command_value None = Ok None
+command_value (Some None) = Err TooLong
+command_value (Some (Some value)) = Ok (Some value)
 
 -- The variable may have this value.
 abbrev pub invalid_value : VariableState → List ℕ → Result (Unit {0}) ErrWord
@@ -165,8 +165,8 @@ first_id None word = Err word
 first_id (Some id) word = Ok (Some id)
 
 -- The id of an order, where its session's orders are tracked.
-abbrev pub no_id : Seen → AskerSeen → ErrWord → Result (Option ℕ) ErrWord
-no_id s asker word = if asker.tracking then first_id (next_id s.tracking) word else Ok None
+abbrev pub order_id : Seen → AskerSeen → ErrWord → Result (Option ℕ) ErrWord
+order_id s asker word = if asker.tracking then first_id (next_id s.tracking) word else Ok None
 
 -- The line fits in what the driver may still be owed.
 abbrev pub set_failed : KnownUps → List ℕ → Result (Unit {0}) ErrWord
@@ -182,5 +182,5 @@ abbrev pub progress_at : Seen → Option ℕ → Option (ℕ × Progress)
 progress_at s None = None
 progress_at s (Some id) = option_map (λ progress. (id, progress)) (progress_of id s.tracking)
 
-abbrev pub unknown_id : Seen → Option ℕ → Result (ℕ × Progress) ErrWord
-unknown_id s id = ok_or (progress_at s id) InvalidArgument
+abbrev pub kept_progress : Seen → Option ℕ → Result (ℕ × Progress) ErrWord
+kept_progress s id = ok_or (progress_at s id) InvalidArgument

@@ -13,7 +13,7 @@ use Rattle.nutcommand.specs.declared.command.Command.{Command}
 use Rattle.nutcommand.specs.declared.err_word.ErrWord.{ErrWord}
 use Rattle.nutanswer.specs.declared.reply.Change.TheVariants.{Nothing}
 use Rattle.nutlisting.specs.Lines.{IsWholeLine}
-use Rattle.nutlisting.specs.declared.listing.clients.TheConstants.{SESSION_LIMIT}
+use Rattle.nutusers.specs.declared.limits.TheConstants.{SESSION_LIMIT}
 use Rattle.nutcommand.specs.ErrWord.{error_line}
 use Rattle.nutanswer.specs.View.{Seen, AskerSeen, UpsSeen}
 use Rattle.nutanswer.specs.Checks.{KnownUps, ups_named}

@@ -6,7 +6,7 @@ use Rattle.nutwords.specs.Frame.{line_of}
 use Rattle.nutwords.specs.Natural.{is_empty}
 use Rattle.nutwords.specs.Spelling.{quoted}
 use Rattle.nuttracking.specs.Id.{id_text}
-use Rattle.nutdriver.specs.Number.{read_number}
+use Rattle.nutdriver.specs.Arguments.{read_number}
 use Rattle.nutdriver.specs.Variable.{VariableState, has_value}
 use Rattle.nutdriver.specs.declared.range.Range.{Range}
 use Rattle.nutusers.specs.declared.rights.Right.{Right}

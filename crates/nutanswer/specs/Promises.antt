@@ -10,19 +10,19 @@ use Rattle.nutanswer.specs.declared.reply.Change.TheVariants.{Nothing}
 use Rattle.nutanswer.specs.declared.reply.Reply.{Reply}
 use Rattle.nutanswer.specs.declared.reply.Reply.TheVariants.{Refused, One, Many, Clients}
 use Rattle.nutanswer.specs.View.{Seen, AskerSeen, ups_seen}
-use Rattle.nutanswer.specs.Checks.{◌>>=◌, ◌>>◌, KnownUps, unknown_ups, live, var_not_supported}
-use Rattle.nutanswer.specs.Checks.{cmd_not_supported, readonly, too_long, invalid_value}
+use Rattle.nutanswer.specs.Checks.{◌>>=◌, ◌>>◌, KnownUps, known_ups, live, known_variable}
+use Rattle.nutanswer.specs.Checks.{known_command, readonly, settable_value, invalid_value}
 use Rattle.nutlisting.specs.Items.{ListingState}
 use Rattle.nutanswer.specs.Answer.{Answer, listing, answer_to, shares_version, IsOneLine, IsReply}
 
 -- The UPS that was found.
-abbrev pub known_ups : Known → KnownUps
-known_ups k = record { name = k.name.now; id = k.id; state = ups_seen k.state }
+abbrev pub ups_of_known : Known → KnownUps
+ups_of_known k = record { name = k.name.now; id = k.id; state = ups_seen k.state }
 
 -- The UPS and the variable that were found.
-abbrev pub known_variable
+abbrev pub variable_of_known
     : Known × Bor (List ℕ) × Bor VariableState → KnownUps × List ℕ × VariableState
-known_variable k = (known_ups k.0, k.1.now, k.2.now)
+variable_of_known k = (ups_of_known k.0, k.1.now, k.2.now)
 
 -- What was found, or the word of the check that failed.
 abbrev pub found : {A B : Type 0} → (A → B) → Result A ErrWord → Result B ErrWord
@@ -31,7 +31,7 @@ found f result = result >>= (λ a. Ok (f a))
 -- The live UPS of this name.
 abbrev pub live_ups : Seen → Option (List ℕ) → Result KnownUps ErrWord
 live_ups s ups = do
-  u ← unknown_ups s ups
+  u ← known_ups s ups
   live s u
   Ok u
 
@@ -39,29 +39,29 @@ live_ups s ups = do
 abbrev pub live_variable : Seen → Option (List ℕ) → Option (List ℕ)
     → Result (KnownUps × List ℕ × VariableState) ErrWord
 live_variable s ups name = do
-  u ← unknown_ups s ups
+  u ← known_ups s ups
   live s u
-  (v, x) ← var_not_supported u name
+  (v, x) ← known_variable u name
   Ok (u, v, x)
 
 -- The UPS and the command that were found.
-abbrev pub known_command : Known × Bor (List ℕ) → KnownUps × List ℕ
-known_command k = (known_ups k.0, k.1.now)
+abbrev pub command_of_known : Known × Bor (List ℕ) → KnownUps × List ℕ
+command_of_known k = (ups_of_known k.0, k.1.now)
 
 -- The command of this name, of a live UPS.
 abbrev pub live_command
     : Seen → Option (List ℕ) → Option (List ℕ) → Result (KnownUps × List ℕ) ErrWord
 live_command s ups name = do
-  u ← unknown_ups s ups
+  u ← known_ups s ups
   live s u
-  c ← cmd_not_supported u name
+  c ← known_command u name
   Ok (u, c)
 
 -- The value of this word, where the variable may be set to it.
 abbrev pub settable : VariableState → Option (List ℕ) → Result (List ℕ) ErrWord
 settable x word = do
   readonly x
-  value ← too_long x word
+  value ← settable_value x word
   invalid_value x value
   Ok value
 

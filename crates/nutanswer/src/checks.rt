@@ -2,9 +2,9 @@
 ghost use Rattle.std.specs.Prelude.{◌≡◌};
 ghost use Rattle.std.specs.Option.{option_copied};
 ghost use Rattle.nutanswer.specs.View.{asker_seen};
-ghost use Rattle.nutanswer.specs.Checks.{unknown_ups, user, too_long_of_command, no_id};
+ghost use Rattle.nutanswer.specs.Checks.{known_ups, user, command_value, order_id};
 ghost use Rattle.nutanswer.specs.Orders.{instcmd_right, is_short_enough, is_listed, is_in_ranges, is_within_one};
-ghost use Rattle.nutanswer.specs.Promises.{known_ups, known_variable, known_command, found, live_ups, live_variable, live_command, settable};
+ghost use Rattle.nutanswer.specs.Promises.{ups_of_known, variable_of_known, command_of_known, found, live_ups, live_variable, live_command, settable};
 
 use crate::{Asker, Peers, UpsView, View};
 use nutdriver::{EnumValue, Range, Variable, read_number};
@@ -46,7 +46,7 @@ impl<P: Peers> View<'_, P> {
 
     /// The UPS of this name.
     pub(crate) fn known_ups(&self, ups: &UpsWord<'_>) -> Checked<Known<'_>>
-        ensures { found known_ups result ≡ unknown_ups self.now ups.now }
+        ensures { found ups_of_known result ≡ known_ups self.now ups.now }
     {
         let mut held = None;
         let word = ups.bytes(&mut held).ok_or(ErrWord::UnknownUps)?;
@@ -57,7 +57,7 @@ impl<P: Peers> View<'_, P> {
 
     /// The live UPS of this name: its driver is connected, and its data are right.
     pub(crate) fn live_ups(&self, ups: &UpsWord<'_>) -> Checked<Known<'_>>
-        ensures { found known_ups result ≡ live_ups self.now ups.now }
+        ensures { found ups_of_known result ≡ live_ups self.now ups.now }
     {
         let ups = self.known_ups(ups)?;
         if !ups.state.report.connected {
@@ -75,7 +75,7 @@ impl<P: Peers> View<'_, P> {
         ups: &UpsWord<'_>,
         name: &'a Option<Name>,
     ) -> Checked<(Known<'a>, &'a Name, &'a Variable)>
-        ensures { found known_variable result ≡ live_variable self.now ups.now name.now }
+        ensures { found variable_of_known result ≡ live_variable self.now ups.now name.now }
     {
         let ups = self.live_ups(ups)?;
         let name = name.as_ref().ok_or(ErrWord::VarNotSupported)?;
@@ -90,7 +90,7 @@ impl<P: Peers> View<'_, P> {
         ups: &UpsWord<'_>,
         name: &'a Option<Name>,
     ) -> Checked<(Known<'a>, &'a Name)>
-        ensures { found known_command result ≡ live_command self.now ups.now name.now }
+        ensures { found command_of_known result ≡ live_command self.now ups.now name.now }
     {
         let ups = self.live_ups(ups)?;
         let name = name.as_ref().ok_or(ErrWord::CmdNotSupported)?;
@@ -103,7 +103,7 @@ impl<P: Peers> View<'_, P> {
     /// The id of an order of this session, where its orders are tracked, or this word where none is
     /// available.
     pub(crate) fn order_id(&self, asker: Asker<'_>, failed: ErrWord) -> Checked<Option<u128>>
-        ensures { result ≡ no_id self.now (asker_seen asker.entry) failed }
+        ensures { result ≡ order_id self.now (asker_seen asker.entry) failed }
     {
         if !asker.tracking {
             return Ok(None);
@@ -132,7 +132,7 @@ pub(crate) fn settable<'v>(variable: &Variable, value: Option<&'v [u8]>) -> Chec
 
 /// The value of a command, which may be left out.
 pub(crate) fn command_value(value: &Option<ValueWord<'_>>) -> Checked<Option<Value>>
-    ensures { result ≡ too_long_of_command value.now }
+    ensures { result ≡ command_value value.now }
 {
     let Some(word) = value else {
         return Ok(None);

@@ -7,7 +7,7 @@ use Rattle.nutrequest.specs.Reply.{Whole}
 use Rattle.nutrequest.specs.declared.item.Item.{Item}
 use Rattle.nutrequest.specs.declared.request.Request.{Request}
 use Rattle.nutrequest.specs.Fault.{status_of, fault_text}
-use Rattle.nutio.specs.Writing.{SendGives}
+use Rattle.nutio.specs.Ends.{SendGives}
 use Rattle.nutio.specs.declared.ends.Failed.{Failed}
 use Rattle.nutrequest.specs.declared.faults.ClientFault.{ClientFault}
 use Rattle.nutclient.specs.Requests.{last_reply}

@@ -1,7 +1,7 @@
 //! The engine of the programs.
 ghost use Rattle.std.specs.Prelude.{◌≡◌, ◌≢◌, ◌≤◌, ◌++◌, [], Err, OnErr, OnOk, true, false, Some, List, ℕ};
 ghost use Rattle.nutio.specs.Ends.{NoneFailed};
-ghost use Rattle.nutrequest.specs.State.{unread_of, reader_of, writer_of};
+ghost use Rattle.nutrequest.specs.Session.{unread_of, reader_of, writer_of};
 ghost use Rattle.nutclient.specs.Requests.{RequestsGive};
 ghost use Rattle.nutclient.specs.Printed.{printed, RunGives, Answers};
 ghost use Rattle.nutclient.specs.Ending.{DoesJob, IsDone};

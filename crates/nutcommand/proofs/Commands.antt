@@ -16,7 +16,7 @@ use Rattle.nutcommand.specs.declared.err_word.ErrWord.{ErrWord}
 use Rattle.nutwords.specs.declared.faults.BadLine.{BadLine}
 use Rattle.nutwords.specs.Scan.{read_line}
 use Rattle.nuttracking.specs.Id.{read_id}
-use Rattle.nutwords.specs.Keyword.{is_word}
+use Rattle.nutwords.specs.Spelling.{is_word}
 use Rattle.nutcommand.specs.Command.{user_name_alone, password_alone, ups_alone, ups_and_name, Names}
 use Rattle.nutcommand.specs.Command.{ups_name_and_value_if_any, on_or_off, read_set, tracking_asked}
 use Rattle.nutcommand.specs.Command.{read_instcmd, read_get, read_list, command_named, some_command}

@@ -8,7 +8,7 @@ use Rattle.nutwords.specs.Reading.{is_name, is_ups_name, is_value}
 use Rattle.nutwords.specs.declared.faults.BadLine.{BadLine}
 use Rattle.nuttracking.specs.Id.{read_id}
 use Rattle.nutusers.specs.Credentials.{read_user_name, read_password}
-use Rattle.nutwords.specs.Keyword.{is_word}
+use Rattle.nutwords.specs.Spelling.{is_word}
 use Rattle.nutcommand.specs.declared.command.Command.{Command}
 use Rattle.nutcommand.specs.declared.command.Command.TheVariants.{Username, Password, Login, Logout}
 use Rattle.nutcommand.specs.declared.command.Command.TheVariants.{Primary, Fsd, SetVar, InstCmd}

@@ -3,10 +3,11 @@ use Rattle.std.proofs.Common.{arith, ◌≡◌, ◌∙◌, ℕ, true, false, Lis
 use Rattle.std.proofs.Common.{◌++◌, Some, refl, sym, ap, eqb, inl, inr, append_assoc}
 use Rattle.std.proofs.Common.{append-nil, length, length-append}
 use Rattle.std.proofs.lemmas.Bool.{both_ways, false_from_ne_true, eqb-true, lt-ltb}
-use Rattle.nutwords.specs.SplitLine.{split_line, has_lf, first_line}
+use Rattle.nutwords.specs.SplitLine.{split_line, first_line}
+use Rattle.nutwords.specs.Cut.{has_lf}
 use Rattle.nutwords.proofs.PublicLaws.{first_line_is_cut_off}
 use Rattle.nutcore.proofs.Common.{cond_both, same_Some, ServerState}
-use Rattle.nutwords.specs.Text.{with_lf}
+use Rattle.nutwords.specs.SplitLine.{with_lf}
 use Rattle.nutcore.specs.History.{Execution, of_line, of_notice, client_of, executions, of_client}
 use Rattle.nutcore.specs.History.{lines_of, texts_of, taken, asked, executed, answers}
 use Rattle.nutcore.specs.Sound.{Each}

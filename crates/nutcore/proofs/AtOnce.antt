@@ -4,8 +4,9 @@ use Rattle.std.proofs.Common.{List, [], ◌∷◌, ◌++◌, Option, Some, refl,
 use Rattle.std.proofs.Common.{length, length-append, append-nil, take_all}
 use Rattle.std.specs.Prelude.{option_map}
 use Rattle.std.proofs.lemmas.List.{nil_from_length}
-use Rattle.nutwords.specs.Text.{with_lf}
-use Rattle.nutwords.specs.SplitLine.{split_line, first_line, rest_after, has_lf}
+use Rattle.nutwords.specs.SplitLine.{with_lf}
+use Rattle.nutwords.specs.SplitLine.{split_line, first_line, rest_after}
+use Rattle.nutwords.specs.Cut.{has_lf}
 use Rattle.nutwords.proofs.PublicLaws.{first_line_is_cut_off, first_line_and_the_rest_are_all}
 use Rattle.nutcore.specs.declared.TheConstants.{HELD_LIMIT}
 use Rattle.nutcore.specs.declared.event.Event.TheVariants.{Feed}

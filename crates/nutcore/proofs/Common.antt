@@ -16,8 +16,10 @@ pub use Rattle.nutcore.specs.declared.event.Outcome.{Outcome}
 pub use Rattle.nutcore.specs.Session.{SessionState}
 pub use Rattle.nutcore.specs.Ups.{UpsState}
 pub use Rattle.nuttracking.specs.Tracking.{TrackingState}
-pub use Rattle.nutcore.specs.Server.{ServerState, session, ups_at, changed_at, with_session}
-pub use Rattle.nutcore.specs.Server.{with_session_changed, with_ups_changed, with_tracking}
+pub use Rattle.nutcore.specs.Server.{ServerState, session, with_session}
+pub use Rattle.nutcore.specs.Parts.{ups_at, changed_at}
+pub use Rattle.nutcore.specs.Server.{with_session_changed}
+pub use Rattle.nutcore.specs.Parts.{with_ups_changed, with_tracking}
 pub use Rattle.nutcore.specs.Step.{Step, after}
 pub use Rattle.nutcore.specs.Run.{Run}
 

@@ -7,7 +7,7 @@ use Rattle.std.proofs.lemmas.Bool.{cond-true, eq-eqb}
 use Rattle.nutlisting.specs.Counted.{IsCounted, KeepsCount}
 use Rattle.nutlisting.specs.Counts.{lines}
 use Rattle.nutlisting.specs.Lines.{IsWholeLine}
-use Rattle.nutlisting.specs.declared.byte_queue.TheConstants.{QUEUE_LIMIT}
+use Rattle.nutlisting.specs.declared.outbox.TheConstants.{QUEUE_LIMIT}
 use Rattle.nutcore.specs.declared.cost.Cost.{Cost}
 use Rattle.nutcore.proofs.Common.{Event, SessionState, ServerState, session}
 use Rattle.nutcore.specs.declared.event.Event.TheVariants.{Feed, Took}

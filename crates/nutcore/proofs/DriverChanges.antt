@@ -8,7 +8,7 @@ use Rattle.nutdriver.specs.declared.report.Report.{Report}
 use Rattle.nutdriver.specs.declared.report.LineOutcome.{LineOutcome}
 use Rattle.nutdriver.specs.Report.{after_line, end_in}
 use Rattle.nutcore.specs.declared.event.Event.TheVariants.{DriverUp}
-use Rattle.nutwords.specs.Text.{with_lf}
+use Rattle.nutwords.specs.SplitLine.{with_lf}
 use Rattle.nutwords.specs.Lines.{Tail, IsCutInto, line as one_line, unfinished, overlong}
 use Rattle.nutwords.specs.WholeLines.{joined, whole_lines, unfinished_after, is_too_long, tail_after}
 use Rattle.nutwords.proofs.PublicLaws.{first_line_is_cut_off, no_line_without_lf}

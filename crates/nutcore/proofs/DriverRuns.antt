@@ -8,7 +8,7 @@ use Rattle.nutcore.proofs.Common.{option_map_or, flat_map-append, same_Some, Ups
 use Rattle.nutcore.proofs.Common.{ServerState, ups_at, after, Run, UpsState, never_both}
 use Rattle.nutdriver.specs.declared.report.Report.{Report}
 use Rattle.nutdriver.specs.Report.{after_line, lost_report}
-use Rattle.nutwords.specs.Text.{with_lf}
+use Rattle.nutwords.specs.SplitLine.{with_lf}
 use Rattle.nutcore.specs.Ups.{UpsState, greatest_count, new_ups, after_connecting}
 use Rattle.nutcore.specs.DriverHistory.{Heard, heard_in_event, heard, bytes_heard, after_heard}
 use Rattle.nutcore.specs.DriverHistory.{refused_among, IsWholeLine, came_in_event, came, has_driver}

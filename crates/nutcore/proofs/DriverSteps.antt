@@ -18,8 +18,10 @@ use Rattle.nutcore.specs.declared.note.TheConstants.{NOTE_LIMIT}
 use Rattle.nutcore.specs.Notes.{notes_of, loss_notes}
 use Rattle.nutcore.specs.Reports.{after_ends}
 use Rattle.nutcore.specs.Ups.{UpsState, after_connecting, after_loss, after_tick, as_far, ups_after_bytes}
-use Rattle.nutcore.specs.Step.{Step, MayAnswer, connected, disconnected, after_driver_bytes, after_driver_took}
-use Rattle.nutcore.specs.Step.{lines_read, ticked, outcome_of, after, after_by, refused_after, MayLackMemory}
+use Rattle.nutcore.specs.Step.{Step, MayAnswer}
+use Rattle.nutcore.specs.DriverEvents.{connected, disconnected, after_driver_bytes, after_driver_took}
+use Rattle.nutcore.specs.Step.{outcome_of, after, after_by, refused_after, MayLackMemory}
+use Rattle.nutcore.specs.DriverEvents.{lines_read, ticked}
 use Rattle.nutcore.specs.Calls.{is_connected, done, ReadsUps}
 use Rattle.nutcore.specs.Cost.{RunningServer}
 use Rattle.nutcore.specs.Promises.{with_note, IsTaken, Reports, IsAnswered}

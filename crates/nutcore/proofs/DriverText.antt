@@ -2,7 +2,7 @@
 use Rattle.std.proofs.Common.{◌≡◌, ℕ, List, Option, refl}
 use Rattle.nutcore.proofs.Common.{UpsId, ServerState}
 use Rattle.nutcore.specs.Ups.{ups_after_bytes}
-use Rattle.nutcore.specs.Step.{changed_both, lines_read, after_driver_bytes}
+use Rattle.nutcore.specs.DriverEvents.{changed_both, lines_read, after_driver_bytes}
 
 pub bytes_change : (u : UpsId) (piece : List ℕ) (refused : Option ℕ) (s : ServerState)
     → after_driver_bytes u piece refused s ≡

@@ -12,7 +12,7 @@ use Rattle.nutcore.specs.declared.note.DataState.TheVariants.{Lost, Awaited, Goo
 use Rattle.nutcore.specs.declared.note.Note.{Note}
 use Rattle.nutusers.specs.UpsList.{id_at}
 use Rattle.nutcore.specs.Ups.{after_tick}
-use Rattle.nutcore.specs.Step.{ticked}
+use Rattle.nutcore.specs.DriverEvents.{ticked}
 use Rattle.nutcore.specs.Notes.{all_notes, data_note, data_state_of, tick_notes}
 use Rattle.nutcore.specs.Due.{NothingDueIsSleptOver, due_among, due_of}
 

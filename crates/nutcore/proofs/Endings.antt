@@ -9,7 +9,8 @@ use Rattle.nutcore.specs.declared.event.Outcome.TheVariants.{Opened, Refused}
 use Rattle.nutcore.specs.declared.event.Fault.TheVariants.{TooManyClients}
 use Rattle.nutcore.specs.Session.{new_session}
 use Rattle.nutcore.specs.Pump.{holds_overlong}
-use Rattle.nutcore.specs.Step.{may_open, opened, ticked, after_by, refused_after, outcome_of, MayAnswer}
+use Rattle.nutcore.specs.Step.{may_open, opened, after_by, refused_after, outcome_of, MayAnswer}
+use Rattle.nutcore.specs.DriverEvents.{ticked}
 use Rattle.nutcore.specs.History.{Execution, executions, of_client, texts_of, owed, is_over}
 use Rattle.nutcore.specs.Headline.{IsLawful}
 use Rattle.nutcore.specs.Addresses.{opened_from}

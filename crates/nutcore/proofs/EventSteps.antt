@@ -12,7 +12,8 @@ use Rattle.nutcore.specs.Session.{without, new_session}
 use Rattle.nutcore.specs.Pump.{after_all_lines, after_lines, pumped, is_overlong, wants_memory}
 use Rattle.nuttracking.specs.Tracking.{id_fault}
 use Rattle.nutcore.specs.Step.{joined, accepted, offered, refused_after, with_input, taken_from, without_output}
-use Rattle.nutcore.specs.Step.{may_take, may_open, pumped_until, opened, handed_in, after_by, fed_by, id_outcome}
+use Rattle.nutcore.specs.Step.{may_take, may_open, pumped_until, opened, after_by, fed_by}
+use Rattle.nutcore.specs.DriverEvents.{handed_in, id_outcome}
 use Rattle.nutcore.specs.Step.{outcome_of, MayLackMemory}
 use Rattle.nutcore.specs.Calls.{done, IsEvent}
 use Rattle.nutcore.specs.Cost.{RunningServer, begun}

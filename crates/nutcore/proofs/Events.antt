@@ -14,11 +14,15 @@ use Rattle.nutcore.specs.Session.{without}
 use Rattle.nutcore.specs.Ups.{ping_is_due, after_tick, after_loss, after_connecting, ping_line}
 use Rattle.nutcore.specs.Ups.{ups_after_bytes, lines_of}
 use Rattle.nutcore.specs.Reports.{after_ends}
-use Rattle.nutcore.specs.Step.{with_input, without_output, may_take, may_open, after_by, ticked}
-use Rattle.nutcore.specs.Step.{connected, disconnected, after_driver_took, opened, pumped_until}
-use Rattle.nutcore.specs.Step.{handed_in, joined, driver_may_take, refused_after, Step, outcome_of}
-use Rattle.nutcore.specs.Step.{after_driver_bytes, connected_by, driver_took_by, disconnected_by}
-use Rattle.nutcore.specs.Step.{driver_bytes_by, fed_by, took_by, closed_by, accepted, id_outcome}
+use Rattle.nutcore.specs.Step.{with_input, without_output, may_take, may_open, after_by}
+use Rattle.nutcore.specs.DriverEvents.{ticked}
+use Rattle.nutcore.specs.Step.{opened, pumped_until}
+use Rattle.nutcore.specs.DriverEvents.{connected, disconnected, after_driver_took}
+use Rattle.nutcore.specs.Step.{joined, refused_after, Step, outcome_of}
+use Rattle.nutcore.specs.DriverEvents.{handed_in, driver_may_take}
+use Rattle.nutcore.specs.DriverEvents.{after_driver_bytes, connected_by, driver_took_by, disconnected_by}
+use Rattle.nutcore.specs.Step.{fed_by, took_by, closed_by, accepted}
+use Rattle.nutcore.specs.DriverEvents.{driver_bytes_by, id_outcome}
 use Rattle.nutcore.specs.Isolation.{client_of, ups_of, is_harmless}
 use Rattle.nutcore.specs.History.{Execution, executions_until, executions_by, taken_in_event, asked_in_event}
 use Rattle.nutcore.specs.Cost.{cost_of, no_cost}
@@ -26,8 +30,8 @@ use Rattle.nutcore.specs.DriverHistory.{has_driver, came_in_event, heard_in_even
 use Rattle.nutcore.specs.DriverOrders as telling
 use Rattle.nutcore.specs.DriverOrders.{ServerLine, dump_all, ping, given_beside_lines, moment_of}
 use Rattle.nutcore.specs.DriverOrders.{given_in_event, texts_of}
-use Rattle.nutcore.specs.Server.{with_tracking, with_ups_changed}
-use Rattle.nutcore.specs.Step.{changed_both, lines_read}
+use Rattle.nutcore.specs.Parts.{with_tracking, with_ups_changed}
+use Rattle.nutcore.specs.DriverEvents.{changed_both, lines_read}
 use Rattle.nutcore.proofs.DriverText.{bytes_change}
 use Rattle.nutcore.specs.Pump.{after_all_lines, is_overlong, pumped}
 use Rattle.nutcore.proofs.Changed.{input_absent, of_opened}

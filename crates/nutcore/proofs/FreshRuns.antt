@@ -25,7 +25,8 @@ use Rattle.nutcore.specs.declared.event.Event.TheVariants.{Feed, Took}
 use Rattle.nutcore.specs.declared.TheConstants.{DRIVER_OWED_LIMIT}
 use Rattle.nutcore.specs.Ups.{ping_line, after_tick}
 use Rattle.nutcore.specs.Reply.{seen, seen_ups, asker, text_to, reply}
-use Rattle.nutcore.specs.Step.{after_by, refused_after, ticked}
+use Rattle.nutcore.specs.Step.{after_by, refused_after}
+use Rattle.nutcore.specs.DriverEvents.{ticked}
 use Rattle.nutcore.specs.History.{Execution, of_line, of_notice}
 use Rattle.nutcore.specs.Headline.{IsInEvent, IsTimely}
 use Rattle.nutcore.specs.Isolation.{ups_of, without_commands, kept_from_clients}

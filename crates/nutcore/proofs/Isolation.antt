@@ -22,7 +22,7 @@ use Rattle.nutcore.specs.Isolation.{is_harmless}
 use Rattle.nutcore.specs.Cost.{cost_of, no_cost}
 use Rattle.nutcore.proofs.Events.{is_quiet, may_not, of_event, of_parts, any_driver, refused}
 use Rattle.nutcore.proofs.Changed.{by_change}
-use Rattle.nutcore.specs.Step.{changed_both}
+use Rattle.nutcore.specs.DriverEvents.{changed_both}
 use Rattle.nutcore.proofs.Changes.{of_upses}
 use Rattle.nutcore.proofs.Costs.{fed_nothing_costs, took_nothing_costs}
 use Rattle.nutcore.proofs.Found.{find_without_other}

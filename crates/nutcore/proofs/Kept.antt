@@ -12,7 +12,8 @@ use Rattle.nutcore.specs.Session.{without, new_session}
 use Rattle.nutcore.specs.Pump.{next_line_for, after_line, after_lines, after_all_lines}
 use Rattle.nutcore.specs.Pump.{after_notice, with_notice, pumped, held_of, answered}
 use Rattle.nutcore.specs.Step.{joined, with_input, taken_from, without_output, may_take, may_open}
-use Rattle.nutcore.specs.Step.{ticked, pumped_until, handed_in, after_by, refused_after}
+use Rattle.nutcore.specs.Step.{pumped_until, after_by, refused_after}
+use Rattle.nutcore.specs.DriverEvents.{ticked, handed_in}
 use Rattle.nutcore.specs.Addresses.{opened_from}
 use Rattle.nutcore.specs.Reply.{reply}
 use Rattle.nutcore.proofs.Changes.{keeps}

@@ -15,7 +15,8 @@ use Rattle.nutcore.specs.Pump.{next_line, next_line_for, after_line, after_lines
 use Rattle.nutcore.specs.Pump.{held_of, owed_of, pumped, after_notice, after_all_lines}
 use Rattle.nutcore.specs.Pump.{holds_overlong, notified, answered}
 use Rattle.nutcore.specs.Step.{with_input, without_output, may_take, outcome_of, after_by, pumped_until}
-use Rattle.nutcore.specs.Headline.{IsLeast, NothingIsLeftToExecute, OneAnswerAtMostIsOwedAbove}
+use Rattle.nutcore.specs.Headline.{NothingIsLeftToExecute, OneAnswerAtMostIsOwedAbove}
+use Rattle.nutcore.specs.Determined.{IsLeast}
 use Rattle.nutcore.proofs.Changes.{keeps}
 use Rattle.nutcore.proofs.Changed.{session_changed}
 use Rattle.nutcore.proofs.Pumping.{is_next, change_at, no_notice, of_notice_due}

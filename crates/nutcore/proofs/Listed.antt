@@ -26,7 +26,7 @@ use Rattle.nutlisting.specs.Items.{variable_item, is_rw, enum_listing, range_lis
 use Rattle.nutcommand.specs.declared.err_word.ErrWord.{ErrWord}
 use Rattle.nutcommand.specs.declared.err_word.ErrWord.TheVariants.{VarNotSupported}
 use Rattle.nutanswer.specs.View.{Seen, UpsSeen}
-use Rattle.nutanswer.specs.Checks.{◌>>=◌, ◌>>◌, KnownUps, ups_named, unknown_ups, live, var_not_supported}
+use Rattle.nutanswer.specs.Checks.{◌>>=◌, ◌>>◌, KnownUps, ups_named, known_ups, live, known_variable}
 use Rattle.nutanswer.specs.Answer.{Answer, listing, in_one_line, text_of_answer}
 use Rattle.nutcore.specs.Server.{ServerState}
 use Rattle.nutcore.specs.Reply.{seen, seen_ups, text_to}
@@ -55,8 +55,8 @@ tree_of s ups u sound named =
 variable_row : (s : ServerState) (ups : Option (List ℕ)) (u : KnownUps) (name : List ℕ)
     (o : Option VariableState) (row : KnownUps → List ℕ × VariableState →
     Result Answer ErrWord) → AsksOf s ups u → variable_at u.state.report.tree name ≡ o
-    → (unknown_ups (seen s) ups >>=
-    (λ k. live (seen s) k >> (var_not_supported k (Some name) >>= (λ v. row k v)))) ≡
+    → (known_ups (seen s) ups >>=
+    (λ k. live (seen s) k >> (known_variable k (Some name) >>= (λ v. row k v)))) ≡
     (ok_or (option_map (λ x. (name, x)) o) VarNotSupported >>= (λ v. row u v))
 variable_row s ups u name o row asks e = cc (asks.named, asks.ready, e)
 

@@ -8,7 +8,7 @@ use Rattle.nutcore.specs.Server.{ServerState, session}
 use Rattle.nutcore.specs.Reply.{reply}
 use Rattle.nutcore.specs.Pump.{next_line_for, answered, after_line, after_lines, pump_stops, held_of, after_all_lines}
 use Rattle.nutwords.specs.SplitLine.{rest_after}
-use Rattle.nutwords.specs.Text.{with_lf}
+use Rattle.nutwords.specs.SplitLine.{with_lf}
 use Rattle.nutwords.proofs.PublicLaws.{first_line_and_the_rest_are_all}
 use Rattle.nutcore.proofs.Changes.{keeps}
 use Rattle.nutcore.proofs.Progress.{Presence}

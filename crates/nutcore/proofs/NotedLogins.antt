@@ -25,7 +25,8 @@ use Rattle.nutcore.specs.Session.{new_session, without}
 use Rattle.nutcore.specs.Reply.{seen, asker, asker_of, reply, refusal_by, change_by, changed_session}
 use Rattle.nutcore.specs.Pump.{next_line_for, answered, after_line, notified}
 use Rattle.nutcore.specs.Step.{joined, with_input, taken_from, without_output, may_take}
-use Rattle.nutcore.specs.Step.{pumped_until, after_by, ticked, refused_after}
+use Rattle.nutcore.specs.Step.{pumped_until, after_by, refused_after}
+use Rattle.nutcore.specs.DriverEvents.{ticked}
 use Rattle.nutcore.specs.History.{Execution, of_line, of_notice, executions_until, executions_by}
 use Rattle.nutcore.specs.Notes.{who_of, logout_of, deed_of, note_read, note_of, notes_of_lines, all_notes}
 use Rattle.nutcore.specs.NotedRuns.{Leads, login_at, login_in}

@@ -31,8 +31,10 @@ use Rattle.nutcore.specs.Session.{without}
 use Rattle.nutcore.specs.Reports.{with_end, is_unawaited}
 use Rattle.nutcore.specs.Ups.{ping_is_due, after_tick, after_connecting, after_loss, after_text, after_texts}
 use Rattle.nutcore.specs.Ups.{with_unfinished, as_far, is_refused, ups_after_text, ups_after_bytes}
-use Rattle.nutcore.specs.Step.{with_input, without_output, may_take, connected, disconnected, after_driver_took}
-use Rattle.nutcore.specs.Step.{changed_both, lines_read, pumped_until, after_by, ticked, refused_after}
+use Rattle.nutcore.specs.Step.{with_input, without_output, may_take}
+use Rattle.nutcore.specs.DriverEvents.{connected, disconnected, after_driver_took}
+use Rattle.nutcore.specs.Step.{pumped_until, after_by, refused_after}
+use Rattle.nutcore.specs.DriverEvents.{changed_both, lines_read, ticked}
 use Rattle.nutcore.specs.History.{Execution, executions_by}
 use Rattle.nutcore.specs.Isolation.{without_commands, kept_from_clients}
 use Rattle.nutcore.specs.DriverHistory.{heard_at, heard_in_event}

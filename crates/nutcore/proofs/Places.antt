@@ -12,7 +12,8 @@ use Rattle.std.proofs.lemmas.Bool.{cond_both, cases_Bool, cases_lt, eqb-true, eq
 use Rattle.std.proofs.lemmas.List.Sums.{position_or_len_is}
 use Rattle.std.proofs.lemmas.Bool.Decides.{nat_tests}
 use Rattle.std.proofs.lemmas.Grind.{common_steps}
-use Rattle.nutcore.specs.Session.{SessionState, find, put, without, IdsRise, new_session}
+use Rattle.nutcore.specs.Session.{SessionState, find, put, without, new_session}
+use Rattle.nutcore.specs.Sound.{IdsRise}
 use Rattle.nutcore.specs.Promises.{place, IsAt}
 use Rattle.nutcore.proofs.Found.{cases_Option}
 use Rattle.nutcore.specs.declared.event.Fault.TheVariants.{NoSuchClient}

@@ -1,7 +1,7 @@
 -- Runs, one event after another.
 use Rattle.std.proofs.Common.{◌≡◌, List, [], ◌∷◌, ◌++◌, ◌∙◌, refl, ap, subst, inl, inr}
 use Rattle.nutcore.proofs.Common.{Event, Outcome, ServerState, session, Step, after, Run}
-use Rattle.nutcore.specs.Session.{IdsRise}
+use Rattle.nutcore.specs.Sound.{IdsRise}
 use Rattle.nutcore.specs.Headline.{IsLawful}
 use Rattle.nutcore.specs.declared.cost.Cost.{Cost}
 use Rattle.nutcore.specs.Cost.{RunningServer, cost_of, last_cost}

@@ -10,7 +10,8 @@ use denote.Ref.{Bor}
 use Rattle.nutcore.specs.declared.event.Fault.TheVariants.{LineTooLong}
 use Rattle.nutcore.proofs.Common.{same_Some, Change, SessionState, ServerState, session, with_session}
 use Rattle.nutcore.proofs.Common.{with_session_changed}
-use Rattle.nutcore.specs.Session.{without, IdsRise}
+use Rattle.nutcore.specs.Session.{without}
+use Rattle.nutcore.specs.Sound.{IdsRise}
 use Rattle.std.specs.declared.alloc.AllocError.{AllocError}
 use Rattle.nutwords.specs.declared.limits.TheConstants.{LINE_LIMIT}
 use Rattle.nutlisting.specs.Lines.{IsWholeLine}
@@ -23,7 +24,8 @@ use Rattle.nutcore.specs.Reply.{seen, asker, asker_of, reply, text_to, refusal_b
 use Rattle.nutcore.specs.Reply.{changed_session, changed_upses, changed_tracking}
 use Rattle.nutcore.specs.Pump.{next_line, next_line_for, answered, after_line, after_lines}
 use Rattle.nutcore.specs.Pump.{pump_stops, held_of, after_all_lines, pumped, after_notice}
-use Rattle.nutcore.specs.Pump.{is_overlong, notified, wants_memory, shares_version_read}
+use Rattle.nutcore.specs.Pump.{is_overlong, notified, wants_memory}
+use Rattle.nutcore.specs.Reply.{shares_version_read}
 use Rattle.nutcommand.specs.declared.command.Command.{Command}
 use Rattle.nutcommand.specs.declared.err_word.ErrWord.{ErrWord}
 use Rattle.nutcommand.specs.ErrWord.{error_line}

@@ -18,7 +18,8 @@ use Rattle.nutcore.specs.Reports.{with_end, is_unawaited}
 use Rattle.nutcore.specs.Ups.{with_fsd, after_outcome, after_texts, ups_after_text, ups_after_bytes}
 use Rattle.nutcore.specs.Reply.{changed_upses, seen, seen_ups}
 use Rattle.nutcore.specs.Pump.{next_line_for, after_line, notified}
-use Rattle.nutcore.specs.Step.{after_by, joined, taken_from, opened, ticked}
+use Rattle.nutcore.specs.Step.{after_by, joined, taken_from, opened}
+use Rattle.nutcore.specs.DriverEvents.{ticked}
 use Rattle.nutcore.specs.History.{Execution, of_line, of_notice, executions}
 use Rattle.nutcore.specs.ByRight.{SetsShutdownByRight, WasShutDown, is_shut_down}
 use Rattle.nutcore.specs.ByRight.{AForcedShutdownReachesEverybody, IsByRight}

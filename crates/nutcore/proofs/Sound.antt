@@ -21,8 +21,10 @@ use Rattle.nutcore.specs.Session.{SessionState, find, put, without, new_session}
 use Rattle.nutcore.specs.Ups.{UpsState, new_ups, after_connecting, after_loss, after_tick, ups_after_bytes}
 use Rattle.nutcore.specs.Reply.{reply, changed_session, changed_upses, changed_tracking}
 use Rattle.nutcore.specs.Pump.{answered, next_line_for, after_line, with_notice}
-use Rattle.nutcore.specs.Step.{Step, joined, taken_from, may_open, connected, disconnected}
-use Rattle.nutcore.specs.Step.{after_driver_took, ticked, after_by, refused_after}
+use Rattle.nutcore.specs.Step.{Step, joined, taken_from, may_open}
+use Rattle.nutcore.specs.DriverEvents.{connected, disconnected}
+use Rattle.nutcore.specs.Step.{after_by, refused_after}
+use Rattle.nutcore.specs.DriverEvents.{after_driver_took, ticked}
 use Rattle.nutcore.specs.Promises.{OfUps}
 use Rattle.nutcore.specs.Addresses.{opened_from}
 use Rattle.nutcore.specs.Sound.{Each, IsSoundSession, IsSoundUps, IsSound, ANewServerIsSound}

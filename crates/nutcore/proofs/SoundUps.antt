@@ -23,7 +23,7 @@ use Rattle.nutcore.specs.Ups.{after_text, after_texts, with_unfinished, ups_afte
 use Rattle.nutcore.specs.Reply.{changed_upses}
 use Rattle.nutcore.specs.Promises.{OrderFits}
 use Rattle.nutcore.proofs.Changes.{of_upses}
-use Rattle.nutcore.specs.Step.{driver_may_take, after_driver_took}
+use Rattle.nutcore.specs.DriverEvents.{driver_may_take, after_driver_took}
 use Rattle.nutcore.specs.Sound.{Each, IsSoundUps}
 
 -- lists

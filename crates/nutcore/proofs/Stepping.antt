@@ -4,7 +4,7 @@ use Rattle.std.proofs.Common.{Some, refl, sym, ◌∙◌, ap, arith, take, appen
 use Rattle.std.proofs.lemmas.Bool.{cond-true, lt-ltb}
 use Rattle.std.proofs.lemmas.List.{take-append-drop}
 use Rattle.nutcore.proofs.Common.{never_both, flat_map-append, Event, Outcome, ServerState, Run}
-use Rattle.nutwords.specs.Text.{with_lf}
+use Rattle.nutwords.specs.SplitLine.{with_lf}
 use Rattle.nutcore.specs.Reply.{reply, too_long_notice}
 use Rattle.nutcore.specs.Pump.{answered, notified, owed_of, held_of}
 use Rattle.nutcore.specs.Step.{accepted_bytes, joined, with_input, taken_from, without_output, pumped_until}

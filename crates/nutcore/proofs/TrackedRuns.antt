@@ -19,14 +19,15 @@ use Rattle.nutcore.specs.Reports.{with_end, after_ends}
 use Rattle.nutcore.specs.Reply.{changed_tracking}
 use Rattle.nutcore.specs.Pump.{notified}
 use Rattle.nutcore.specs.Step.{joined, with_input, taken_from, without_output, may_take}
-use Rattle.nutcore.specs.Step.{pumped_until, ticked, after_by, refused_after}
+use Rattle.nutcore.specs.Step.{pumped_until, after_by, refused_after}
+use Rattle.nutcore.specs.DriverEvents.{ticked}
 use Rattle.nutcore.specs.History.{Execution, executions_until, executions_by}
 use Rattle.nutcore.specs.DriverHistory.{Heard, heard_at, has_driver}
 use Rattle.nutcore.specs.TrackedRuns.{act_of_end, act_of_change, act_of, acts_in_event, acts}
 use Rattle.nutcore.specs.TrackedRuns.{WhatIsTrackedComesOfTheActs, EachRunTracksItsOrders}
 use Rattle.nutcore.proofs.Changed.{by_change, of_opened}
 use Rattle.nutcore.specs.Ups.{as_far}
-use Rattle.nutcore.specs.Step.{lines_read}
+use Rattle.nutcore.specs.DriverEvents.{lines_read}
 use Rattle.nutcore.proofs.DriverText.{bytes_change}
 use Rattle.nutcore.proofs.Histories.{IsOfPump, until_keeps, later}
 use Rattle.nutcore.proofs.Pumping.{is_next, after_line_is, change_at}

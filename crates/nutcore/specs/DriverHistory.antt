@@ -13,13 +13,14 @@ pub use Rattle.nutdriver.specs.Report.{Heard, after_heard}
 use Rattle.nutcore.specs.declared.event.Event.{Event}
 use Rattle.nutcore.specs.declared.event.Event.TheVariants.{DriverBytes}
 use Rattle.nutcore.specs.declared.event.Outcome.{Outcome}
-use Rattle.nutwords.specs.Text.{with_lf}
+use Rattle.nutwords.specs.SplitLine.{with_lf}
 use Rattle.nuttracking.specs.Tracking.{TrackingState}
 use Rattle.nutwords.specs.WholeLines.{whole_lines}
 use Rattle.nutdriver.specs.Report.{end_in}
 use Rattle.nutcore.specs.Reports.{with_end, is_unawaited}
 use Rattle.nutcore.specs.Ups.{UpsState, greatest_count, is_refused, as_far}
-use Rattle.nutcore.specs.Server.{ServerState, ups_at}
+use Rattle.nutcore.specs.Server.{ServerState}
+use Rattle.nutcore.specs.Parts.{ups_at}
 use Rattle.nutcore.specs.Step.{after, refused_after}
 use Rattle.nutcore.specs.Run.{Run}
 use Rattle.nutcore.specs.Sound.{Each}

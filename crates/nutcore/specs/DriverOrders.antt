@@ -11,9 +11,11 @@ use Rattle.nutcore.specs.declared.event.Event.{Event}
 use Rattle.nutcore.specs.declared.event.Event.TheVariants.{DriverUp, DriverTook, Tick}
 use Rattle.nutcore.specs.declared.event.Outcome.{Outcome}
 use Rattle.nutcore.specs.Ups.{ping_line, ping_is_due}
-use Rattle.nutcore.specs.Server.{ServerState, ups_at}
+use Rattle.nutcore.specs.Server.{ServerState}
+use Rattle.nutcore.specs.Parts.{ups_at}
 use Rattle.nutcore.specs.Reply.{change_by}
-use Rattle.nutcore.specs.Step.{after, driver_may_take}
+use Rattle.nutcore.specs.Step.{after}
+use Rattle.nutcore.specs.DriverEvents.{driver_may_take}
 use Rattle.nutcore.specs.Run.{Run}
 use Rattle.nutcore.specs.History.{Execution, of_line, of_notice, executions_in_event}
 use Rattle.nutcore.specs.Headline.{IsBeginning}

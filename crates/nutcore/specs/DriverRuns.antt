@@ -18,7 +18,8 @@ use Rattle.nutcore.specs.declared.event.Event.TheVariants.{DriverUp}
 use Rattle.nutcore.specs.declared.event.Outcome.{Outcome}
 use Rattle.nutcore.specs.declared.event.Outcome.TheVariants.{Done}
 use Rattle.nutcore.specs.Ups.{UpsState, new_ups, after_connecting, greatest_count}
-use Rattle.nutcore.specs.Server.{ServerState, new_server, ups_at}
+use Rattle.nutcore.specs.Server.{ServerState, new_server}
+use Rattle.nutcore.specs.Parts.{ups_at}
 use Rattle.nutcore.specs.Step.{Step, after}
 use Rattle.nutcore.specs.Run.{Run}
 use Rattle.nutcore.specs.Headline.{IsBeginning}

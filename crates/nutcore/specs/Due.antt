@@ -4,7 +4,7 @@ use Rattle.std.specs.Prelude.{not, nat_lt, if◌then◌else◌}
 use Rattle.nutcore.specs.declared.event.Event.TheVariants.{Tick}
 use Rattle.nutcore.specs.Ups.{UpsState}
 use Rattle.nutcore.specs.Server.{ServerState}
-use Rattle.nutcore.specs.Step.{ticked}
+use Rattle.nutcore.specs.DriverEvents.{ticked}
 use Rattle.nutcore.specs.Notes.{all_notes}
 use Rattle.nutcore.specs.Sound.{IsSound}
 

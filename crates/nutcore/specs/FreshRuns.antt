@@ -17,7 +17,8 @@ use Rattle.nutcore.specs.declared.event.Outcome.{Outcome}
 use Rattle.nutcore.specs.declared.event.Outcome.TheVariants.{Done}
 use Rattle.nutcore.specs.declared.TheConstants.{DRIVER_OWED_LIMIT}
 use Rattle.nutcore.specs.Ups.{UpsState, ping_line}
-use Rattle.nutcore.specs.Server.{ServerState, ups_at}
+use Rattle.nutcore.specs.Server.{ServerState}
+use Rattle.nutcore.specs.Parts.{ups_at}
 use Rattle.nutcore.specs.Reply.{seen, seen_ups, reply}
 use Rattle.nutcore.specs.Step.{Step, after}
 use Rattle.nutcore.specs.Sound.{IsSound}

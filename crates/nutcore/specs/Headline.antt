@@ -1,19 +1,18 @@
 -- The laws of every run: what was sent and is owed is the answers.
-use Rattle.std.specs.Prelude.{◌≡◌, ◌⊎◌, ℕ, ◌<◌, ◌≤◌, length, true, false, List, ◌∷◌, ◌++◌, All}
-use Rattle.std.specs.Prelude.{Some, is_some, codes, nat_eq}
+use Rattle.std.specs.Prelude.{◌≡◌, ℕ, ◌<◌, ◌≤◌, length, true, false, List, ◌∷◌, ◌++◌, All, Some}
+use Rattle.std.specs.Prelude.{is_some, codes, nat_eq}
 use Rattle.std.specs.List.{starts_with}
 use Rattle.nutlisting.specs.declared.outbox.TheConstants.{OWED_LIMIT}
 use Rattle.nutcore.specs.declared.event.Event.{Event}
 use Rattle.nutcore.specs.declared.event.Event.TheVariants.{Feed, Took}
 use Rattle.nutcore.specs.declared.event.Outcome.{Outcome}
-use Rattle.nutcore.specs.declared.event.Outcome.TheVariants.{Done, Fed, Refused}
-use Rattle.nutcore.specs.declared.event.Fault.TheVariants.{Memory}
+use Rattle.nutcore.specs.declared.event.Outcome.TheVariants.{Done, Fed}
 use Rattle.nutcore.specs.Session.{SessionState}
 use Rattle.nutcore.specs.Server.{ServerState, session, with_session}
 use Rattle.nutcore.specs.Reply.{reply}
-use Rattle.nutcore.specs.Pump.{next_line_for, pump_stops, after_line, after_lines, after_notice}
-use Rattle.nutcore.specs.Pump.{after_all_lines, is_overlong, pumped, answered}
-use Rattle.nutcore.specs.Step.{Step, with_input, without_output, outcome_of}
+use Rattle.nutcore.specs.Pump.{next_line_for, pump_stops, after_line, after_lines, after_all_lines}
+use Rattle.nutcore.specs.Pump.{is_overlong, answered}
+use Rattle.nutcore.specs.Step.{Step, with_input, without_output}
 use Rattle.nutcore.specs.Run.{Run}
 use Rattle.nutcore.specs.History.{Execution, of_line, of_notice, executions, answers, executed}
 use Rattle.nutcore.specs.History.{taken, asked, owed, held, is_closed, is_over}
@@ -118,26 +117,3 @@ ARefusedLineChangesNothing =
     (s : ServerState) (c : ℕ) (line : List ℕ) (x : SessionState) → session c s ≡ Some x
     → next_line_for s c ≡ Some line → starts_with nat_eq (reply s c line) (codes "ERR") ≡ true
     → after_line s c ≡ with_session s (answered line (reply s c line) x)
-
--- The pump executes the least number of lines after which it stops.
-pub record IsLeast (s : ServerState) (c k : ℕ) : Type 0 where
-  pub there : pump_stops (after_lines k s c) c ≡ true
-  pub before : (j : ℕ) → j < k → pump_stops (after_lines j s c) c ≡ false
-  pub pumped_is : pumped s c ≡ after_notice (after_lines k s c) c
-
-abbrev pub ThePumpExecutesTheLeast : Type 0
-ThePumpExecutesTheLeast = (s : ServerState) (c : ℕ) → (k : ℕ) × IsLeast s c k
-
-abbrev pub IsOutOfMemory : Outcome → Type 0
-IsOutOfMemory outcome = (k : ℕ) × (outcome ≡ Refused (Memory k))
-
--- An event is a function of the server: given the outcome there is one next server, and except for
--- being out of memory there is one outcome.
-pub record IsAFunction (s : ServerState) (event : Event) : Type 0 where
-  pub one_next : (outcome : Outcome) (new other : ServerState) → Step s event outcome new
-      → Step s event outcome other → new ≡ other
-  pub one_outcome : (outcome : Outcome) (new : ServerState) → Step s event outcome new
-      → (outcome ≡ outcome_of s event) ⊎ IsOutOfMemory outcome
-
-abbrev pub EachEventIsAFunction : Type 0
-EachEventIsAFunction = (s : ServerState) (event : Event) → IsAFunction s event

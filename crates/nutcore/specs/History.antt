@@ -7,7 +7,7 @@ use Rattle.std.specs.Option.{option_map_or}
 use Rattle.nutcore.specs.declared.event.Event.{Event}
 use Rattle.nutcore.specs.declared.event.Event.TheVariants.{Feed, Took}
 use Rattle.nutcore.specs.declared.event.Outcome.{Outcome}
-use Rattle.nutwords.specs.Text.{with_lf}
+use Rattle.nutwords.specs.SplitLine.{with_lf}
 use Rattle.nutcore.specs.Server.{ServerState, session}
 use Rattle.nutcore.specs.Reply.{reply, too_long_notice}
 use Rattle.nutcore.specs.Pump.{next_line_for, after_line, after_all_lines, is_overlong, held_of}

@@ -13,7 +13,8 @@ use Rattle.nutcore.specs.declared.event.Fault.{Fault}
 use Rattle.nutcore.specs.declared.event.Fault.TheVariants.{LineTooLong, Memory}
 use Rattle.nuttracking.specs.Tracking.{nothing_tracked}
 use Rattle.nutcore.specs.Ups.{UpsState}
-use Rattle.nutcore.specs.Server.{ServerState, session, ups_at}
+use Rattle.nutcore.specs.Server.{ServerState, session}
+use Rattle.nutcore.specs.Parts.{ups_at}
 use Rattle.nutcore.specs.Cost.{cost_of, no_cost}
 use Rattle.nutcore.specs.Step.{Step}
 

@@ -1,10 +1,12 @@
-pub mod Numbers
+pub mod Limits
 pub mod Reports
 pub mod Ups
 pub mod Session
 pub mod Server
+pub mod Parts
 pub mod Reply
 pub mod Pump
+pub mod DriverEvents
 pub mod Step
 pub mod Run
 pub mod History
@@ -12,6 +14,7 @@ pub mod Notes
 pub mod Cost
 pub mod Recording
 pub mod Headline
+pub mod Determined
 pub mod Isolation
 pub mod Happenings
 pub mod Sound
@@ -36,6 +39,5 @@ pub mod ReadsBack
 pub mod Addresses
 pub mod ServerLines
 pub mod AnswersApart
-pub mod Limits
 pub mod Calls
 pub mod Promises

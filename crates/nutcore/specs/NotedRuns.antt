@@ -11,7 +11,8 @@ use Rattle.nutcore.specs.declared.note.DataState.TheVariants.{Lost}
 use Rattle.nutcore.specs.declared.note.Note.{Note}
 use Rattle.nutcore.specs.declared.note.Note.TheVariants.{Data, StatusChanged, LineRefused}
 use Rattle.nutcore.specs.declared.note.Note.TheVariants.{LoggedIn, LoggedOut, Did}
-use Rattle.nutcore.specs.Server.{ServerState, session, ups_at}
+use Rattle.nutcore.specs.Server.{ServerState, session}
+use Rattle.nutcore.specs.Parts.{ups_at}
 use Rattle.nutcore.specs.Step.{after}
 use Rattle.nutcore.specs.Run.{Run}
 use Rattle.nutcore.specs.History.{executions}

@@ -39,7 +39,8 @@ use Rattle.nutdriver.specs.declared.report.LineOutcome.{LineOutcome}
 use Rattle.nutdriver.specs.declared.report.LineOutcome.TheVariants.{Refused}
 use Rattle.nutdriver.specs.Report.{after_line, end_in}
 use Rattle.nutcore.specs.Session.{SessionState}
-use Rattle.nutcore.specs.Server.{ServerState, session, ups_at}
+use Rattle.nutcore.specs.Server.{ServerState, session}
+use Rattle.nutcore.specs.Parts.{ups_at}
 use Rattle.nutcore.specs.Step.{refused_after}
 use Rattle.nutcore.specs.Sound.{IsSound}
 use Rattle.nutcore.specs.Reply.{refusal_by, change_by}

@@ -16,7 +16,7 @@ use Rattle.nutanswer.specs.declared.reply.Change.TheVariants.{Nothing}
 use Rattle.nutanswer.specs.Orders.{order}
 use Rattle.nutlisting.specs.declared.outbox.TheConstants.{OWED_LIMIT}
 use Rattle.nutcommand.specs.Command.{read_command}
-use Rattle.nutlisting.specs.Bounded.{with_one}
+use Rattle.nutio.specs.Bounded.{with_one}
 use Rattle.nutlisting.specs.Counted.{KeepsCount}
 use Rattle.nutlisting.specs.Counts.{lines}
 use Rattle.nutlisting.specs.Lines.{IsWholeLine}
@@ -37,7 +37,8 @@ use Rattle.nutcore.specs.Step.{refused_after}
 use Rattle.nutusers.specs.declared.ups_list.UpsId.{UpsId}
 use Rattle.std.specs.Option.{option_map, option_and_then}
 use Rattle.nutcore.specs.Calls.{is_connected, done}
-use Rattle.nutcore.specs.Server.{ServerState, ups_at}
+use Rattle.nutcore.specs.Server.{ServerState}
+use Rattle.nutcore.specs.Parts.{ups_at}
 use Rattle.nutcore.specs.Reply.{seen, asker, text_to, refusal_by, change_by, seen_client}
 use Rattle.nutcore.specs.declared.cost.Cost.{Cost}
 use Rattle.nutcore.specs.History.{owed, of_line}
@@ -46,7 +47,8 @@ use Rattle.nutcore.specs.declared.note.TheConstants.{NOTE_LIMIT}
 use Rattle.nutcore.specs.Notes.{deed_of, note_of_change, note_of, line_notes, text_notes}
 use Rattle.nutcore.specs.Cost.{RunningServer}
 use Rattle.nutcore.specs.Pump.{pumped, after_all_lines, after_lines, is_overlong, wants_memory}
-use Rattle.nutcore.specs.Pump.{shares_version_read, next_line, next_line_for, holds_overlong}
+use Rattle.nutcore.specs.Pump.{next_line, next_line_for, holds_overlong}
+use Rattle.nutcore.specs.Reply.{shares_version_read}
 use Rattle.nutcore.specs.declared.session.Next.{Next}
 use Rattle.nutcore.specs.declared.session.Next.TheVariants as nexts
 use Rattle.nutwords.specs.declared.limits.TheConstants.{LINE_LIMIT}

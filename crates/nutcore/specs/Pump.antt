@@ -1,18 +1,14 @@
 -- Which held lines of a session are executed, and what that leaves.
 use Rattle.std.specs.Prelude.{ℕ, zero, suc, Bool, false, List, [], ◌++◌, Option, Some, None}
 use Rattle.std.specs.Prelude.{is_none, option_and_then, nat_lt, nat_le, not, ◌||◌, ◌&&◌}
-use Rattle.std.specs.Prelude.{if◌then◌else◌, length, Result, Ok, Err}
+use Rattle.std.specs.Prelude.{if◌then◌else◌, length}
 use Rattle.std.specs.Option.{option_map_or}
 use Rattle.nutcore.specs.declared.TheConstants.{HELD_LIMIT}
 use Rattle.nutlisting.specs.declared.outbox.TheConstants.{OWED_LIMIT}
-use Rattle.nutcommand.specs.declared.command.Command.{Command}
-use Rattle.nutcommand.specs.declared.err_word.ErrWord.{ErrWord}
-use Rattle.nutcommand.specs.Command.{read_command}
-use Rattle.nutanswer.specs.Answer.{answer_to, shares_version}
 use Rattle.nutwords.specs.SplitLine.{first_line, rest_after}
 use Rattle.nutcore.specs.Session.{SessionState, begin_ending}
 use Rattle.nutcore.specs.Server.{ServerState, session, with_session_changed}
-use Rattle.nutcore.specs.Reply.{seen, asker, reply, after_change, too_long_notice}
+use Rattle.nutcore.specs.Reply.{reply, after_change, too_long_notice, line_wants_memory}
 
 -- The session's next line, if it may be executed: the session isn't ending, and at most 4,096 bytes
 -- are owed.
@@ -83,15 +79,7 @@ after_notice s c = with_session_changed with_notice c s
 unfoldable pub pumped : ServerState → ℕ → ServerState
 pumped s c = after_notice (after_all_lines s c) c
 
--- The line's answer shares a version of what it lists: the one answer for which memory may be
--- refused.
-abbrev pub shares_version_read : ServerState → ℕ → Result (Option Command) ErrWord → Bool
-shares_version_read s c (Err word) = false
-shares_version_read s c (Ok None) = false
-shares_version_read s c (Ok (Some command)) =
-    shares_version (answer_to (seen s) (asker c s) command)
-
 -- The session's next line may be executed, and its answer shares a version.
 abbrev pub wants_memory : ServerState → ℕ → Bool
 wants_memory s c =
-    option_map_or (λ line. shares_version_read s c (read_command line)) (next_line_for s c) false
+    option_map_or (λ line. line_wants_memory s c line) (next_line_for s c) false

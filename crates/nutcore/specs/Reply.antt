@@ -1,5 +1,5 @@
 -- The reply to a line (RFC 9271) on the server of that moment, and its changes.
-use Rattle.std.specs.Prelude.{ℕ, false, List, [], Option, Some, None, Result, Ok, Err, map}
+use Rattle.std.specs.Prelude.{ℕ, false, List, [], Option, Some, None, Result, Ok, Err, map, Bool}
 use Rattle.std.specs.Result.{result_err}
 use Rattle.nutcommand.specs.declared.command.Command.{Command}
 use Rattle.nutcommand.specs.declared.err_word.ErrWord.{ErrWord}
@@ -11,10 +11,11 @@ use Rattle.nutanswer.specs.declared.reply.Change.TheVariants.{Nothing, Username,
 use Rattle.nutanswer.specs.declared.reply.Change.TheVariants.{Ending, Fsd, Order, Tracking, Tracked}
 use Rattle.nuttracking.specs.Tracking.{TrackingState, with_order as with_tracked_order}
 use Rattle.nutanswer.specs.View.{Seen, UpsSeen, ClientSeen, AskerSeen}
-use Rattle.nutanswer.specs.Answer.{answer_to, text_of_answer, change_of_answer}
+use Rattle.nutanswer.specs.Answer.{answer_to, text_of_answer, change_of_answer, shares_version}
 use Rattle.nutcore.specs.Session.{SessionState, begin_ending}
 use Rattle.nutcore.specs.Ups.{UpsState, with_fsd, free_room, with_order}
-use Rattle.nutcore.specs.Server.{ServerState, session, changed_at, with_session_changed}
+use Rattle.nutcore.specs.Server.{ServerState, session, with_session_changed}
+use Rattle.nutcore.specs.Parts.{changed_at}
 
 -- A UPS as answers see it.
 abbrev pub seen_ups : UpsState → UpsSeen
@@ -110,3 +111,14 @@ after_change s c line = changed (change_by s c (read_command line)) c s
 -- The notice to a client of which 2,048 bytes came without an LF.
 abbrev pub too_long_notice : List ℕ
 too_long_notice = error_line TooLong
+
+-- The line's answer shares a version of what it lists: the one answer for which memory may be
+-- refused.
+abbrev pub shares_version_read : ServerState → ℕ → Result (Option Command) ErrWord → Bool
+shares_version_read s c (Err word) = false
+shares_version_read s c (Ok None) = false
+shares_version_read s c (Ok (Some command)) =
+    shares_version (answer_to (seen s) (asker c s) command)
+
+abbrev pub line_wants_memory : ServerState → ℕ → List ℕ → Bool
+line_wants_memory s c line = shares_version_read s c (read_command line)

@@ -1,6 +1,6 @@
 -- The sessions of clients.
-use Rattle.std.specs.Prelude.{◌≤◌, ◌+◌, ℕ, Bool, true, false, List, [], ◌∷◌, Option, Some, None}
-use Rattle.std.specs.Prelude.{◌==◌, if◌then◌else◌}
+use Rattle.std.specs.Prelude.{ℕ, Bool, true, false, List, [], ◌∷◌, Option, Some, None, ◌==◌}
+use Rattle.std.specs.Prelude.{if◌then◌else◌}
 use Rattle.nutusers.specs.declared.ups_list.UpsId.{UpsId}
 
 -- held: what came of its input and isn't executed yet. owed: what it is still to be sent. username,
@@ -50,9 +50,3 @@ put y (x ∷ xs) = if x.id == y.id then y ∷ xs else x ∷ put y xs
 abbrev pub without : ℕ → List SessionState → List SessionState
 without c [] = []
 without c (x ∷ xs) = if x.id == c then without c xs else x ∷ without c xs
-
--- The ids of the sessions rise: the first is at least this one, each other one is above the one
--- before it, and all are below the next one.
-abbrev pub IdsRise : ℕ → ℕ → List SessionState → Type 0
-IdsRise least next [] = least ≤ next
-IdsRise least next (x ∷ xs) = (least ≤ x.id) × IdsRise (x.id + 1) next xs

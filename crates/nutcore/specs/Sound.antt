@@ -1,10 +1,10 @@
 -- What holds of every server that events made of a new one.
-use Rattle.std.specs.Prelude.{◌≡◌, ◌≤◌, ℕ, true, false, List, [], ◌∷◌, None, length}
+use Rattle.std.specs.Prelude.{◌≡◌, ◌≤◌, ℕ, true, false, List, [], ◌∷◌, None, length, ◌+◌}
 use Rattle.nutwords.specs.declared.limits.TheConstants.{LINE_LIMIT}
 use Rattle.nutwords.specs.SplitLine.{split_line}
 use Rattle.nuttracking.specs.Sound.{IsSoundTracking, HaveLawfulNumbers}
 use Rattle.nutdriver.specs.Sound.{IsSoundTree}
-use Rattle.nutlisting.specs.declared.listing.clients.TheConstants.{SESSION_LIMIT}
+use Rattle.nutusers.specs.declared.limits.TheConstants.{SESSION_LIMIT}
 use Rattle.nutusers.specs.UpsList.{Ups, IsList}
 use Rattle.nutusers.specs.Users.{User}
 use Rattle.nutusers.specs.Descriptions.{Descriptions, AreLawful}
@@ -12,12 +12,18 @@ use Rattle.nutcore.specs.declared.TheConstants.{HELD_LIMIT, DRIVER_OWED_LIMIT}
 use Rattle.nutcore.specs.declared.max_age.TheConstants.{MAX_AGE_LEAST, MAX_AGE_MOST}
 use Rattle.nutcore.specs.declared.event.Event.{Event}
 use Rattle.nutcore.specs.declared.event.Outcome.{Outcome}
-use Rattle.nutcore.specs.Session.{SessionState, IdsRise}
+use Rattle.nutcore.specs.Session.{SessionState}
 use Rattle.nutcore.specs.Ups.{UpsState, new_ups}
 use Rattle.nutcore.specs.Server.{ServerState, new_server}
 use Rattle.nutcore.specs.Step.{Step}
 use Rattle.nutcore.specs.Run.{Run}
 use Rattle.nutcore.specs.Headline.{IsLawful}
+
+-- The ids of the sessions rise: the first is at least this one, each other one is above the one
+-- before it, and all are below the next one.
+abbrev pub IdsRise : ℕ → ℕ → List SessionState → Type 0
+IdsRise least next [] = least ≤ next
+IdsRise least next (x ∷ xs) = (least ≤ x.id) × IdsRise (x.id + 1) next xs
 
 -- It holds of each of them.
 abbrev pub Each : {A : Type 0} → (A → Type 0) → List A → Type 0

@@ -1,34 +1,28 @@
 -- What each event does, and which outcome it has.
 use Rattle.std.specs.Prelude.{◌≡◌, ℕ, ◌+◌, ◌-◌, ◌^◌, Bool, false, List, [], ◌∷◌, ◌++◌, Option, Some}
 use Rattle.std.specs.Prelude.{None, nat_lt, nat_le, ◌&&◌, if◌then◌else◌, length, take, drop, min}
-use Rattle.std.specs.Prelude.{max, map, not, ◌⊎◌, IsTrue}
-use Rattle.std.specs.Option.{option_map_or}
-use Rattle.nutusers.specs.declared.ups_list.UpsId.{UpsId}
+use Rattle.std.specs.Prelude.{◌⊎◌, IsTrue}
 use Rattle.nutcore.specs.declared.TheConstants.{HELD_LIMIT}
-use Rattle.nutlisting.specs.declared.byte_queue.TheConstants.{QUEUE_LIMIT}
-use Rattle.nutlisting.specs.declared.listing.clients.TheConstants.{SESSION_LIMIT}
+use Rattle.nutlisting.specs.declared.outbox.TheConstants.{QUEUE_LIMIT}
+use Rattle.nutusers.specs.declared.limits.TheConstants.{SESSION_LIMIT}
 use Rattle.nutcore.specs.declared.event.Event.{Event}
 use Rattle.nutcore.specs.declared.event.Event.TheVariants.{DriverUp, DriverBytes, DriverTook}
 use Rattle.nutcore.specs.declared.event.Event.TheVariants.{DriverDown, Tick, Open, Feed, Took}
 use Rattle.nutcore.specs.declared.event.Event.TheVariants.{Close, Id}
 use Rattle.nutcore.specs.declared.event.Outcome.{Outcome}
 use Rattle.nutcore.specs.declared.event.Outcome.TheVariants.{Done, Fed, Opened, Refused}
-use Rattle.nutcore.specs.declared.event.Fault.TheVariants.{NoSuchUps, NoSuchClient, TooManyClients}
-use Rattle.nutcore.specs.declared.event.Fault.TheVariants.{TookTooMuch, NotConnected}
-use Rattle.nutcore.specs.declared.event.Fault.TheVariants.{AlreadyConnected, LineTooLong, Memory}
-use Rattle.nutcore.specs.declared.event.Fault.TheVariants.{KnownId, TooManyIds}
-use Rattle.nuttracking.specs.declared.tracking.IdFault.{IdFault}
-use Rattle.nuttracking.specs.declared.tracking.IdFault.TheVariants.{Known, TooMany}
-use Rattle.nuttracking.specs.Tracking.{id_fault, with_id}
+use Rattle.nutcore.specs.declared.event.Fault.TheVariants.{NoSuchClient, TooManyClients}
+use Rattle.nutcore.specs.declared.event.Fault.TheVariants.{TookTooMuch, LineTooLong, Memory}
+use Rattle.nuttracking.specs.Tracking.{id_fault}
 use Rattle.nutcore.specs.Session.{SessionState, new_session, without}
-use Rattle.nutwords.specs.WholeLines.{unfinished_after, is_too_long}
-use Rattle.nutcore.specs.Reports.{after_ends}
-use Rattle.nutcore.specs.Ups.{UpsState, after_connecting, after_loss, after_tick, lines_of}
-use Rattle.nutcore.specs.Ups.{ups_after_bytes, wants_memory_at}
-use Rattle.nutcore.specs.Server.{ServerState, session, with_session_changed, ups_at}
-use Rattle.nutcore.specs.Server.{with_ups_changed, with_tracking}
+use Rattle.nutcore.specs.Server.{ServerState, session, with_session_changed}
+use Rattle.nutcore.specs.Parts.{ups_at, with_ups_changed}
 use Rattle.nutcore.specs.Pump.{pumped, after_all_lines, after_lines, is_overlong, wants_memory}
 use Rattle.nutcore.specs.Pump.{owed_of}
+use Rattle.nutcore.specs.DriverEvents.{connected, disconnected, after_driver_bytes}
+use Rattle.nutcore.specs.DriverEvents.{after_driver_took, ticked, handed_in, connected_by}
+use Rattle.nutcore.specs.DriverEvents.{driver_bytes_by, driver_took_by, disconnected_by, id_outcome}
+use Rattle.nutcore.specs.DriverEvents.{driver_may_lack_memory}
 
 -- Clients: bytes come.
 
@@ -77,43 +71,6 @@ opened s address None =
     } else s
 opened s address (Some k) = s
 
--- Drivers come and are lost. A refused event changes nothing.
-abbrev pub connected : ℕ → UpsState → UpsState
-connected moment x = if x.report.connected then x else after_connecting moment x
-
-abbrev pub disconnected : UpsState → UpsState
-disconnected x = if x.report.connected then after_loss x else x
-
--- Drivers report. What came changes the driver's UPS, at the server's moment; and where these lines
--- report how orders ended that this UPS waits for, these orders.
-abbrev pub changed_both : (UpsState → UpsState) → List (List ℕ) → UpsId → ServerState → ServerState
-changed_both f lines u s =
-    with_tracking (after_ends u.place lines s.tracking) (with_ups_changed f u s)
-
-unfoldable pub lines_read : UpsId → List ℕ → Option ℕ → ServerState → List (List ℕ)
-lines_read u piece m s = option_map_or (lines_of piece m) (ups_at u.place s) []
-
-unfoldable pub after_driver_bytes : UpsId → List ℕ → Option ℕ → ServerState → ServerState
-after_driver_bytes u piece m s =
-    changed_both (ups_after_bytes s.moment u.place s.tracking piece m) (lines_read u piece m s) u s
-
--- The driver took n bytes of what it is owed.
-abbrev pub driver_may_take : ℕ → UpsState → Bool
-driver_may_take n x = x.report.connected && nat_le n (length x.owed)
-
-abbrev pub after_driver_took : ℕ → UpsState → UpsState
-after_driver_took n x = if driver_may_take n x then record x { owed = drop n x.owed } else x
-
--- Time. The moment never goes back, and each UPS whose PING is due gets one.
-unfoldable pub ticked : ℕ → ServerState → ServerState
-ticked seconds s =
-    let moment = max seconds s.moment in
-    record s { moment = moment; upses = map (after_tick s.max_age moment) s.upses }
-
--- An id for an order is handed in.
-abbrev pub handed_in : ℕ → ServerState → ServerState
-handed_in id s = with_tracking (with_id id s.tracking) s
-
 -- Out of memory.
 
 -- After how many lines of the event memory was refused, if it was.
@@ -146,28 +103,6 @@ after s e outcome = after_by s e (refused_after outcome)
 
 -- The outcome where memory is there.
 
-abbrev pub connected_by : Option UpsState → Outcome
-connected_by None = Refused NoSuchUps
-connected_by (Some x) = if x.report.connected then Refused AlreadyConnected else Done
-
-abbrev pub driver_text_outcome : List ℕ → Outcome
-driver_text_outcome text = if is_too_long (unfinished_after text) then Refused LineTooLong else Done
-
-abbrev pub driver_bytes_by : List ℕ → Option UpsState → Outcome
-driver_bytes_by piece None = Refused NoSuchUps
-driver_bytes_by piece (Some x) =
-    if x.report.connected then driver_text_outcome (x.unfinished ++ piece) else Refused NotConnected
-
-abbrev pub driver_took_by : ℕ → Option UpsState → Outcome
-driver_took_by n None = Refused NoSuchUps
-driver_took_by n (Some x) =
-    if not x.report.connected then Refused NotConnected else if nat_le n (length x.owed) then Done
-    else Refused TookTooMuch
-
-abbrev pub disconnected_by : Option UpsState → Outcome
-disconnected_by None = Refused NoSuchUps
-disconnected_by (Some x) = if x.report.connected then Done else Refused NotConnected
-
 -- How many bytes of a piece are taken in. An ending session takes and drops all.
 abbrev pub accepted : SessionState → List ℕ → ℕ
 accepted x piece =
@@ -187,11 +122,6 @@ abbrev pub closed_by : Option SessionState → Outcome
 closed_by None = Refused NoSuchClient
 closed_by (Some x) = Done
 
-abbrev pub id_outcome : Option IdFault → Outcome
-id_outcome None = Done
-id_outcome (Some Known) = Refused KnownId
-id_outcome (Some TooMany) = Refused TooManyIds
-
 unfoldable pub outcome_of : ServerState → Event → Outcome
 outcome_of s (DriverUp u) = connected_by (ups_at u.place s)
 outcome_of s (DriverBytes u piece) = driver_bytes_by piece (ups_at u.place s)
@@ -205,14 +135,6 @@ outcome_of s (Took c n) =
     took_by (session c s) n (is_overlong (after_all_lines (without_output s c n) c) c)
 outcome_of s (Close c) = closed_by (session c s)
 outcome_of s (Id id) = id_outcome (id_fault id s.tracking)
-
--- A driver is connected, and of what it reported the line after the first k wants memory.
-abbrev pub driver_may_lack_memory : UpsId → List ℕ → ℕ → ServerState → Bool
-driver_may_lack_memory u piece k s =
-    option_map_or
-    (λ x. x.report.connected
-    && wants_memory_at s.moment u.place s.tracking (x.unfinished ++ piece) k x)
-    (ups_at u.place s) false
 
 -- Memory may be refused after k lines of the event. The next line of a client stays held, to be
 -- tried again.

@@ -3,7 +3,7 @@ use Rattle.std.specs.Prelude.{◌≡◌, ◌≤◌, ◌+◌, ◌/◌, ◌==◌, 
 use Rattle.std.specs.Prelude.{length}
 use Rattle.std.specs.List.{filter}
 use Rattle.std.specs.Option.{option_map_or}
-use Rattle.nutlisting.specs.declared.byte_queue.TheConstants.{QUEUE_LIMIT}
+use Rattle.nutlisting.specs.declared.outbox.TheConstants.{QUEUE_LIMIT}
 use Rattle.nutcore.specs.declared.event.Event.{Event}
 use Rattle.nutcore.specs.declared.event.Event.TheVariants.{Took}
 use Rattle.nutcore.specs.declared.event.Outcome.{Outcome}

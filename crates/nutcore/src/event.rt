@@ -1,6 +1,6 @@
 //! Events, what is answered to them, and why one is refused.
 ghost use Rattle.std.specs.Prelude.{◌≡◌};
-ghost use Rattle.nutcore.specs.Numbers.{number_of_fault};
+ghost use Rattle.nutcore.specs.Limits.{number_of_fault};
 
 use nutusers::UpsId;
 use nutwords::{Address, Bytes};

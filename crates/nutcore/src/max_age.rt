@@ -1,7 +1,7 @@
 //! How old what a driver reported may be.
 ghost use Rattle.std.specs.Prelude.{◌≡◌, ℕ, ◌≤◌};
 ghost use Rattle.nutcore.specs.declared.max_age.TheConstants.{MAX_AGE_LEAST, MAX_AGE_MOST};
-ghost use Rattle.nutcore.specs.Server.{read_max_age};
+ghost use Rattle.nutcore.specs.Limits.{read_max_age};
 
 use std::marker::Model;
 

@@ -6,7 +6,7 @@ ghost use Rattle.nutcore.specs.Promises.{with_note};
 use crate::HELD_LIMIT;
 use crate::event::ClientId;
 use nutdriver::DriverFault;
-use nutlisting::BoundedList;
+use nutio::BoundedList;
 use nutcommand::ErrWord;
 use nutusers::{UpsId, UserName};
 use nutwords::{Address, Name, UpsName, Value};

@@ -4,7 +4,8 @@ ghost use Rattle.std.specs.Option.{option_map};
 ghost use Rattle.std.specs.Io.BufRead.{Rests};
 ghost use Rattle.std.specs.Borrow.{sem};
 ghost use Rattle.nuttracking.specs.Tracking.{nothing_tracked};
-ghost use Rattle.nutcore.specs.Server.{session, ups_at, new_server};
+ghost use Rattle.nutcore.specs.Server.{session, new_server};
+ghost use Rattle.nutcore.specs.Parts.{ups_at};
 ghost use Rattle.nutcore.specs.Ups.{new_ups};
 ghost use Rattle.nutusers.specs.UpsList.{place_of, id_at};
 ghost use Rattle.nutcore.specs.Step.{offered};
@@ -15,8 +16,8 @@ ghost use Rattle.nutcore.specs.Due.{due_second};
 ghost use Rattle.nutcore.specs.History.{owed};
 ghost use Rattle.nutcore.specs.Headline.{SentAndOwed, TakenUp};
 ghost use Rattle.nutcore.specs.Calls.{IsEvent, is_connected, fed, done, opened_as, is_finished, room_of, owed_to, IsOutboxOf, Reads, ReadsUps};
-ghost use Rattle.nutlisting.specs.declared.listing.clients.TheConstants.{SESSION_LIMIT};
-ghost use Rattle.nutlisting.specs.declared.byte_queue.TheConstants.{QUEUE_LIMIT};
+ghost use Rattle.nutusers.specs.declared.limits.TheConstants.{SESSION_LIMIT};
+ghost use Rattle.nutlisting.specs.declared.outbox.TheConstants.{QUEUE_LIMIT};
 ghost use Rattle.nutcore.specs.contracts.server.Server.{the_row};
 
 mod drivers;
@@ -39,9 +40,9 @@ use crate::ups::{Moment, Ups};
 use nutdriver::laws::{
     each_line_keeps_the_tree_sound, lawful_lines_keep_trees_sound, read_lines_are_lawful,
 };
-use nutlisting::{Clients, Outbox, SESSION_LIMIT};
+use nutlisting::{Clients, Outbox};
 use nuttracking::{IdFault, Tracking};
-use nutusers::{Descriptions, UpsId, UpsList, Users};
+use nutusers::{Descriptions, SESSION_LIMIT, UpsId, UpsList, Users};
 use nutwords::{Address, Line};
 use std::alloc::{AllocError, Global};
 use std::marker::Model;
@@ -71,7 +72,7 @@ pub struct Server {
 
 impl Model for Server {
     ghost use Rattle.std.specs.Prelude.{◌≤◌, ◌+◌, vec_capacity};
-    ghost use Rattle.nutlisting.specs.declared.listing.clients.TheConstants.{SESSION_LIMIT};
+    ghost use Rattle.nutusers.specs.declared.limits.TheConstants.{SESSION_LIMIT};
     ghost use Rattle.nutcore.specs.Cost.{RunningServer};
     ghost use Rattle.nutcore.specs.Sound.{IsSound};
 

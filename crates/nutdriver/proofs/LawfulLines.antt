@@ -25,9 +25,9 @@ use Rattle.nutdriver.specs.declared.line.DriverLine.TheVariants.{SetInfo, DelInf
 use Rattle.nutdriver.specs.declared.line.DriverLine.TheVariants.{AddRange, DelRange, SetAux}
 use Rattle.nutdriver.specs.declared.line.DriverLine.TheVariants.{SetFlags, AddCmd, DelCmd, DumpDone}
 use Rattle.nutdriver.specs.declared.line.DriverLine.TheVariants.{DataOk, DataStale, Pong, Tracking}
-use Rattle.nutdriver.specs.Number.{read_number, below_zero, not_below_zero}
+use Rattle.nutdriver.specs.Arguments.{read_number, below_zero, not_below_zero}
 use Rattle.nutdriver.specs.Flags.{flags_of}
-use Rattle.nutwords.specs.Keyword.{is_word}
+use Rattle.nutwords.specs.Spelling.{is_word}
 use Rattle.nutdriver.specs.Arguments.{beside, lawful_name, lawful_value, lawful_id, lawful_number}
 use Rattle.nutdriver.specs.Arguments.{lawful_range, name_alone, name_and_value, name_and_range}
 use Rattle.nutdriver.specs.Arguments.{name_and_aux, name_and_flags, id_and_number}

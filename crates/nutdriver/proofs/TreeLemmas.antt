@@ -12,7 +12,7 @@ use Rattle.std.specs.declared.cmp.Ordering.TheVariants.{Less, Equal, Greater}
 use Rattle.std.specs.Ordering.{match_ordering}
 use Rattle.std.specs.Fn.{Once, FnOnceReturnsAtMut}
 use denote.Ref.{MutBor}
-use Rattle.nutmap.specs.Changed.{ChangesValue}
+use Rattle.nutmap.specs.Entries.{ChangesValue}
 use Rattle.nutmap.specs.Entries.{HasRisingKeys, value_at}
 use Rattle.nutdriver.specs.Tree.{byte_order}
 use Rattle.std.specs.Borrow.{Bor}

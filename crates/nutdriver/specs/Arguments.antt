@@ -1,7 +1,7 @@
 -- What follows the first word of a driver's line. The number of words, and the name or the id, are
 -- looked at before what follows them.
 use Rattle.std.specs.Prelude.{ℕ, ℤ, List, [], ◌∷◌, Option, Some, None, Result, Ok, Err, int_le}
-use Rattle.std.specs.Prelude.{if◌then◌else◌}
+use Rattle.std.specs.Prelude.{if◌then◌else◌, pos, neg_ℤ, ◌==◌}
 use Rattle.nuttracking.specs.Id.{read_id}
 use Rattle.nutwords.specs.Natural.{read_natural}
 use Rattle.nutwords.specs.Reading.{read_name, read_value}
@@ -11,8 +11,24 @@ use Rattle.nutdriver.specs.declared.fault.DriverFault.TheVariants.{Malformed, Ba
 use Rattle.nutdriver.specs.declared.flags.Flags.{Flags}
 use Rattle.nutdriver.specs.declared.range.Range.{Range}
 use Rattle.nutdriver.specs.declared.limits.TheConstants.{NUMBER_LIMIT}
-use Rattle.nutdriver.specs.Number.{read_number}
 use Rattle.nutdriver.specs.Flags.{flags_of}
+
+-- The number below 0 whose size this is: there is no -0.
+abbrev pub below_zero : Option ℕ → Option ℤ
+below_zero None = None
+below_zero (Some size) = if size == 0 then None else Some (neg_ℤ (pos size))
+
+abbrev pub not_below_zero : Option ℕ → Option ℤ
+not_below_zero None = None
+not_below_zero (Some size) = Some (pos size)
+
+-- The number that the word writes: `0`, or an optional minus sign and digits that don't begin with
+-- 0, within the limits.
+abbrev pub read_number : List ℕ → Option ℤ
+read_number [] = None
+read_number (b ∷ bs) =
+    if b == 45 then below_zero (read_natural NUMBER_LIMIT bs)
+    else not_below_zero (read_natural NUMBER_LIMIT (b ∷ bs))
 
 -- A name, or an id, beside what follows it, each of which may be refused: the first one's refusal
 -- comes first.

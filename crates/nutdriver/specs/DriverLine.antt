@@ -10,7 +10,7 @@ use Rattle.nutdriver.specs.declared.line.DriverLine.TheVariants.{DumpDone, DataO
 use Rattle.nutdriver.specs.declared.line.DriverLine.TheVariants.{Tracking}
 use Rattle.nutdriver.specs.declared.fault.DriverFault.{DriverFault}
 use Rattle.nutdriver.specs.declared.fault.DriverFault.TheVariants.{Malformed, Unknown}
-use Rattle.nutwords.specs.Keyword.{is_word}
+use Rattle.nutwords.specs.Spelling.{is_word}
 use Rattle.nutdriver.specs.Arguments.{name_alone, name_and_value, name_and_range, name_and_aux}
 use Rattle.nutdriver.specs.Arguments.{name_and_flags, id_and_number}
 

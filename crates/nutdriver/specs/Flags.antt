@@ -4,7 +4,7 @@ use Rattle.std.specs.List.{list_all, list_any}
 use Rattle.nutdriver.specs.declared.fault.DriverFault.{DriverFault}
 use Rattle.nutdriver.specs.declared.fault.DriverFault.TheVariants.{BadFlag}
 use Rattle.nutdriver.specs.declared.flags.Flags.{Flags}
-use Rattle.nutwords.specs.Keyword.{is_word}
+use Rattle.nutwords.specs.Spelling.{is_word}
 
 abbrev pub is_rw : List ℕ → Bool
 is_rw word = is_word word (codes "RW")

@@ -1,12 +1,9 @@
 pub mod Fault
-pub mod Spelling
-pub mod Number
 pub mod Flags
 pub mod Kind
 pub mod Arguments
 pub mod DriverLine
 pub mod Variable
-pub mod Lists
 pub mod Tree
 pub mod DriverStep
 pub mod Promises

@@ -19,7 +19,7 @@ pub(crate) struct Kind {
 
 impl Model for Kind {
     ghost use Rattle.nutdriver.specs.Kind.{KindState};
-    ghost use Rattle.nutdriver.specs.Lists.{lists_of};
+    ghost use Rattle.nutdriver.specs.Kind.{lists_of};
 
     ghost Value = { KindState };
 

@@ -1,7 +1,8 @@
 -- What reads and writes do at the ends of a connection, and how failed ones are counted.
 use Rattle.std.specs.Prelude.{◌≡◌, ℕ, ◌+◌, ◌-◌, ◌^◌, ◌<◌, List, ◌++◌, length, min, Option, Result}
-use Rattle.std.specs.Prelude.{MatchResult, IfOk}
+use Rattle.std.specs.Prelude.{MatchResult, IfOk, Ok, Err}
 use Rattle.std.specs.Io.KnownBytes.{Consumes, Appends}
+use Rattle.nutio.specs.declared.ends.Failed.{Failed}
 
 -- A count after one more failure. It stops at its greatest number.
 abbrev pub counted : ℕ → ℕ
@@ -48,3 +49,11 @@ pub record WriteFailed {W : Type 0} (contents : W → Option (List ℕ)) (failur
   pub begins : IsBeginning front bytes
   pub bytes_written : Appends (contents writer) (contents after) front
   pub failed : failures after ≡ counted (failures writer)
+
+-- All of the text was taken; or a beginning of it, and then a write failed.
+abbrev pub SendGives : {W : Type 0} → (W → Option (List ℕ)) → (W → ℕ) → List ℕ → W
+    → Result (Unit {0}) Failed → W → Type 0
+SendGives contents failures text writer (Ok done) after =
+    Written contents failures writer text after
+SendGives contents failures text writer (Err failed) after =
+    WriteFailed contents failures writer text after

@@ -1,3 +1,3 @@
+pub mod Bounded
 pub mod Ends
 pub mod Joining
-pub mod Writing

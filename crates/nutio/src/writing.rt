@@ -1,5 +1,5 @@
 //! The writing of a text.
-ghost use Rattle.nutio.specs.Writing.{SendGives};
+ghost use Rattle.nutio.specs.Ends.{SendGives};
 
 use crate::{Failed, Sink};
 

@@ -7,7 +7,7 @@ use arrayvec::ArrayString;
 use libc::STDERR_FILENO;
 use libc::net::{POLLOUT, poll};
 use libc::types::pollfd;
-use nutlisting::ByteQueue;
+use nutio::ByteQueue;
 use nutwords::UpsName;
 use std::alloc::AllocError;
 use std::fmt::{Display, Write as _};

@@ -6,12 +6,12 @@ use Rattle.std.proofs.lemmas.List.{take_all, drop_all, drop_at, drop-append-le}
 use Rattle.std.proofs.Math.Seq.{take-append-add}
 use Rattle.nutlisting.specs.Counted.{IsCounted, KeepsCount, WhatIsPlacedIsCounted}
 use Rattle.nutlisting.specs.Counts.{is_open, lines, count_more}
-use Rattle.nutlisting.specs.Filled.{what_fits}
+use Rattle.nutlisting.specs.Counts.{what_fits}
 use Rattle.nutlisting.specs.Items.{ListingState, text_of}
 use Rattle.nutlisting.specs.Owed.{Owes, owed as owed_in, rest_of, IsOutbox}
-use Rattle.nutlisting.specs.Rest.{Position}
+use Rattle.nutlisting.specs.Items.{Position}
 use Rattle.nutlisting.specs.declared.outbox.TheConstants.{OWED_LIMIT}
-use Rattle.nutlisting.specs.declared.byte_queue.TheConstants.{QUEUE_LIMIT}
+use Rattle.nutlisting.specs.declared.outbox.TheConstants.{QUEUE_LIMIT}
 use Rattle.nutlisting.proofs.AddingUp.{lines_add_up}
 use Rattle.nutlisting.proofs.Ended.{begun_lines_are_ended}
 use Rattle.nutlisting.proofs.Owing.{offered_is}

@@ -6,9 +6,9 @@ use Rattle.std.specs.List.{concat}
 use Rattle.std.proofs.lemmas.List.{take-append-le, drop-append-le, append-nil, take_all, drop-drop}
 use Rattle.std.proofs.Math.Seq.{take-append-add, drop-append-add}
 use Rattle.nutlisting.specs.Counts.{is_open, lines, count_more}
-use Rattle.nutlisting.specs.Filled.{what_fits, what_stays, PlacesAlike}
+use Rattle.nutlisting.specs.Counts.{what_fits, what_stays, PlacesAlike}
 use Rattle.nutlisting.specs.Lines.{IsWholeLine}
-use Rattle.nutlisting.specs.declared.byte_queue.TheConstants.{QUEUE_LIMIT}
+use Rattle.nutlisting.specs.declared.outbox.TheConstants.{QUEUE_LIMIT}
 use Rattle.nutlisting.proofs.LineFacts.{IsLine, is_line}
 use Rattle.nutlisting.proofs.Counting.{lines-append, lines-line, lines-piece, whole-line}
 use Rattle.nutlisting.proofs.Counting.{count_more-add, no_lf-take, no_lf-drop}

@@ -22,7 +22,7 @@ use Rattle.nutwords.specs.Reading.{read_text, is_name, is_ups_name, is_address, 
 use Rattle.nutwords.specs.Spelling.{with_backslashes, quoted}
 use Rattle.nutwords.specs.declared.limits.TheConstants.{VALUE_LIMIT, ADDRESS_LIMIT, NAME_LIMIT}
 use Rattle.nutwords.specs.declared.limits.TheConstants.{UPS_NAME_LIMIT, LINE_LIMIT}
-use Rattle.nutwords.specs.SplitLine.{has_lf}
+use Rattle.nutwords.specs.Cut.{has_lf}
 use Rattle.nutwords.proofs.PublicLaws.{quoted_is_short}
 use Rattle.nutdriver.specs.Variable.{VariableState}
 use Rattle.nutdriver.specs.declared.limits.TheConstants.{NUMBER_LIMIT}

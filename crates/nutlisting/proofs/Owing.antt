@@ -3,11 +3,11 @@ use Rattle.std.proofs.Common.{◌≡◌, ◌≤◌, ◌-◌, ℕ, List, ◌++◌
 use Rattle.std.proofs.Common.{Option, None, Some, ap, sym, ◌∙◌, arith, append_assoc}
 use Rattle.std.proofs.Common.{length-append}
 use Rattle.std.proofs.lemmas.List.{append-nil, take_all, take_at, take-append-drop}
-use Rattle.nutlisting.specs.Rest.{Position, rest}
-use Rattle.nutlisting.specs.Filled.{what_fits, what_stays}
+use Rattle.nutlisting.specs.Items.{Position, rest}
+use Rattle.nutlisting.specs.Counts.{what_fits, what_stays}
 use Rattle.nutlisting.specs.Owed.{rest_of, IsOutbox}
 use Rattle.nutlisting.specs.declared.outbox.TheConstants.{OWED_LIMIT}
-use Rattle.nutlisting.specs.declared.byte_queue.TheConstants.{QUEUE_LIMIT}
+use Rattle.nutlisting.specs.declared.outbox.TheConstants.{QUEUE_LIMIT}
 
 -- only the queue
 pub offered_is : (queue : List ℕ) (cursor : Option Position) → IsOutbox queue cursor →

@@ -8,16 +8,16 @@ use Rattle.std.specs.List.{concat, join_with_byte}
 use Rattle.std.proofs.lemmas.List.{drop-drop, drop-append-le}
 use Rattle.std.proofs.lemmas.Bool.Decides.{nat_tests}
 use Rattle.nutwords.specs.Frame.{line_of}
-use Rattle.nutlisting.specs.Content.{listing_of}
+use Rattle.nutlisting.specs.Items.{listing_of}
 use Rattle.nutlisting.specs.Counts.{count_more}
-use Rattle.nutlisting.specs.Filled.{PlacesAlike}
+use Rattle.nutlisting.specs.Counts.{PlacesAlike}
 use Rattle.nutlisting.specs.Items.{text_of, lines_of, edge_line}
 use Rattle.nutlisting.specs.Stages.{Reached, lines_past, items_past, lines_done, position, IsPosition, IsWithin, IsNext}
-use Rattle.nutlisting.specs.Rest.{rest}
+use Rattle.nutlisting.specs.Items.{rest}
 use Rattle.nutlisting.specs.declared.listing.Content.{Content}
 use Rattle.nutlisting.specs.declared.listing.stage.Stage.{Stage}
 use Rattle.nutlisting.specs.declared.listing.stage.Stage.TheVariants.{Start, Names, Items, Done}
-use Rattle.nutlisting.specs.declared.byte_queue.TheConstants.{QUEUE_LIMIT}
+use Rattle.nutlisting.specs.declared.outbox.TheConstants.{QUEUE_LIMIT}
 use Rattle.nutlisting.proofs.Filling.{advance_whole, advance_piece}
 use Rattle.nutlisting.proofs.Writing.{lines_are_text}
 

@@ -10,7 +10,7 @@ use Rattle.nutlisting.proofs.AddingUp as adding
 use Rattle.nutlisting.proofs.Owing as owing
 use Rattle.nutlisting.specs.ReadsBack.{LawfulListingsReadBack}
 use Rattle.nutlisting.proofs.ReadsBack as back
-use Rattle.nutlisting.specs.Tracked.{IdsAreLawful}
+use Rattle.nutlisting.specs.Lines.{IdsAreLawful}
 use Rattle.nutlisting.proofs.Lawful as lawful
 use Rattle.nuttracking.proofs.PublicLaws.{ids_are_plain}
 

@@ -1,13 +1,13 @@
 -- How many lines are counted when bytes are placed in the queue.
 use Rattle.std.specs.Prelude.{◌≡◌, ◌≤◌, ◌-◌, ℕ, false, List, ◌++◌, Option, length, take, drop}
 use Rattle.nutlisting.specs.Counts.{is_open, lines, count_more}
-use Rattle.nutlisting.specs.Filled.{what_fits}
+use Rattle.nutlisting.specs.Counts.{what_fits}
 use Rattle.nutlisting.specs.Items.{ListingState, text_of}
 use Rattle.nutlisting.specs.Lines.{IsWholeLine}
 use Rattle.nutlisting.specs.Owed.{Owes, owed, rest_of, IsOutbox}
-use Rattle.nutlisting.specs.Rest.{Position}
+use Rattle.nutlisting.specs.Items.{Position}
 use Rattle.nutlisting.specs.declared.outbox.TheConstants.{OWED_LIMIT}
-use Rattle.nutlisting.specs.declared.byte_queue.TheConstants.{QUEUE_LIMIT}
+use Rattle.nutlisting.specs.declared.outbox.TheConstants.{QUEUE_LIMIT}
 
 -- Of what is offered now, so many bytes were there before. The lines of those after them are
 -- counted, and none of these is unfinished while a line may be executed.

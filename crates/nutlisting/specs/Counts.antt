@@ -1,7 +1,8 @@
 -- How many lines a text has, and how they are counted.
 use Rattle.std.specs.Prelude.{ℕ, ◌+◌, ◌-◌, ◌^◌, ◌==◌, Bool, false, not, min, List, [], ◌∷◌}
-use Rattle.std.specs.Prelude.{count_by, if◌then◌else◌}
+use Rattle.std.specs.Prelude.{count_by, if◌then◌else◌, ◌≡◌, ◌++◌, length, take, drop}
 use Rattle.std.specs.List.{list_all}
+use Rattle.nutlisting.specs.declared.outbox.TheConstants.{QUEUE_LIMIT}
 
 abbrev pub is_lf : ℕ → Bool
 is_lf b = b == 10
@@ -27,3 +28,20 @@ lines text = count_by is_lf text + (if is_open text then 1 else 0)
 -- A count of 64 bits after n more, which stops at its greatest number.
 abbrev pub count_more : ℕ → ℕ → ℕ
 count_more made n = min (made + n) (2 ^ 64 - 1)
+
+-- The first bytes of the rest, as many as are free in the queue.
+abbrev pub what_fits : List ℕ → List ℕ → List ℕ
+what_fits queue rest = take (QUEUE_LIMIT - length queue) rest
+
+-- What is left of the rest once those are placed.
+abbrev pub what_stays : List ℕ → List ℕ → List ℕ
+what_stays queue rest = drop (QUEUE_LIMIT - length queue) rest
+
+-- From one queue, rest and count to another: once all that fits is placed, the queue, the rest and
+-- the count are the same.
+pub record PlacesAlike (queue rest : List ℕ) (count : ℕ) (queue' rest' : List ℕ)
+    (count' : ℕ) : Type 0 where
+  pub placed : queue' ++ what_fits queue' rest' ≡ queue ++ what_fits queue rest
+  pub stays : what_stays queue' rest' ≡ what_stays queue rest
+  pub counted : count_more count' (lines (what_fits queue' rest'))
+      ≡ count_more count (lines (what_fits queue rest))

@@ -1,6 +1,7 @@
 -- The listings (RFC 9271: LIST), each by the words of its items.
-use Rattle.std.specs.Prelude.{ℕ, Bool, List, [], ◌∷◌, Option, Some, None, codes, map, filter}
+use Rattle.std.specs.Prelude.{ℕ, Bool, List, [], ◌∷◌, Option, Some, None, codes, map, filter, drop}
 use Rattle.std.specs.Fmt.{signed_decimal}
+use Rattle.std.specs.List.{concat}
 use Rattle.nutwords.specs.Frame as frame
 use Rattle.nutwords.specs.Frame.{frame, frame_lines}
 use Rattle.nutwords.specs.Spelling.{quoted}
@@ -8,6 +9,10 @@ use Rattle.nutdriver.specs.declared.range.Range.{Range}
 use Rattle.nutdriver.specs.Variable.{VariableState}
 use Rattle.nutusers.specs.UpsList.{Ups}
 use Rattle.nutlisting.specs.Shown.{shown, ups_description}
+use Rattle.nutdriver.specs.Tree.{variable_at}
+use Rattle.nutlisting.specs.declared.listing.Content.{Content}
+use Rattle.nutlisting.specs.declared.listing.Content.TheVariants.{Upses, Variables, Rw, Commands}
+use Rattle.nutlisting.specs.declared.listing.Content.TheVariants.{EnumValues, Ranges, Clients}
 
 -- A listing: its kind, the names asked for, and the words of each item.
 pub record ListingState : Type 0 where
@@ -110,3 +115,22 @@ client_item ups address = codes "CLIENT" ∷ ups ∷ address ∷ []
 abbrev pub client_listing : List ℕ → List (List ℕ) → ListingState
 client_listing ups addresses =
     record { kind = codes "CLIENT"; names = ups ∷ []; items = map (client_item ups) addresses }
+
+abbrev pub listing_of : Content → ListingState
+listing_of (Upses list) = ups_listing list
+listing_of (Variables ups fsd tree) = variable_listing ups fsd tree.variables
+listing_of (Rw ups fsd tree) = rw_listing ups fsd tree.variables
+listing_of (Commands ups tree) = command_listing ups tree.commands
+listing_of (EnumValues ups name tree) = enum_listing ups name (variable_at tree name)
+listing_of (Ranges ups name tree) = range_listing ups name (variable_at tree name)
+listing_of (Clients ups addresses) = client_listing ups addresses
+
+-- A listing, how many of its lines are done, and how many bytes of the next line.
+pub record Position : Type 0 where
+  pub listing : ListingState
+  pub done : ℕ
+  pub offset : ℕ
+
+-- The lines of the listing after those that are done, less the first bytes.
+abbrev pub rest : Position → List ℕ
+rest p = drop p.offset (concat (drop p.done (lines_of p.listing)))

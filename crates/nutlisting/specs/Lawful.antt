@@ -7,7 +7,7 @@ use Rattle.nutwords.specs.Bytes.{is_lawful}
 use Rattle.nutwords.specs.Frame.{line_of}
 use Rattle.nutwords.specs.Reading.{is_name, is_ups_name, is_address, is_value}
 use Rattle.nutwords.specs.Spelling.{quoted}
-use Rattle.nutwords.specs.SplitLine.{has_lf}
+use Rattle.nutwords.specs.Cut.{has_lf}
 use Rattle.nutwords.specs.declared.limits.TheConstants.{NAME_LIMIT, UPS_NAME_LIMIT, ADDRESS_LIMIT}
 use Rattle.nutwords.specs.declared.limits.TheConstants.{VALUE_LIMIT, LINE_LIMIT}
 use Rattle.nutdriver.specs.Sound.{IsSoundTree, IsSoundVariable}

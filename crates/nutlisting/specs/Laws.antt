@@ -4,9 +4,9 @@ use Rattle.std.specs.List.{concat}
 use Rattle.nutlisting.specs.Counts.{is_open, lines}
 use Rattle.nutlisting.specs.Items.{ListingState, text_of, lines_of}
 use Rattle.nutlisting.specs.Lines.{IsWholeLine}
-use Rattle.nutlisting.specs.Rest.{Position, rest}
+use Rattle.nutlisting.specs.Items.{Position, rest}
 use Rattle.nutlisting.specs.Owed.{rest_of, IsOutbox}
-use Rattle.nutlisting.specs.declared.byte_queue.TheConstants.{QUEUE_LIMIT}
+use Rattle.nutlisting.specs.declared.outbox.TheConstants.{QUEUE_LIMIT}
 
 -- The lines of a listing, joined, are its text.
 abbrev pub LinesAreTheText : Type 0

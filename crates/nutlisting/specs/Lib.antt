@@ -1,14 +1,8 @@
-pub mod Bounded
 pub mod Lines
 pub mod Shown
 pub mod Types
-pub mod Tracked
 pub mod Items
-pub mod Content
-pub mod Spaced
 pub mod Counts
-pub mod Filled
-pub mod Rest
 pub mod Stages
 pub mod Ahead
 pub mod Owed

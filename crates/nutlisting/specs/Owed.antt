@@ -2,8 +2,8 @@
 use Rattle.std.specs.Prelude.{◌≡◌, ℕ, ◌<◌, ◌≤◌, ◌||◌, List, [], ◌++◌, length, Option, None, Some}
 use Rattle.std.specs.Prelude.{MatchOption, IsTrue, is_some, codes}
 use Rattle.std.specs.Str.{bytes_eq}
-use Rattle.nutlisting.specs.Rest.{Position, rest}
-use Rattle.nutlisting.specs.declared.byte_queue.TheConstants.{QUEUE_LIMIT}
+use Rattle.nutlisting.specs.Items.{Position, rest}
+use Rattle.nutlisting.specs.declared.outbox.TheConstants.{QUEUE_LIMIT}
 
 pub record Owes : Type 0 where
   pub queue : List ℕ

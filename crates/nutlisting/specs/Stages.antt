@@ -10,12 +10,12 @@ use Rattle.nutlisting.specs.declared.listing.Content.TheVariants.{Upses, Variabl
 use Rattle.nutlisting.specs.declared.listing.Content.TheVariants.{EnumValues, Ranges, Clients}
 use Rattle.nutlisting.specs.declared.listing.stage.Stage.{Stage}
 use Rattle.nutlisting.specs.declared.listing.stage.Stage.TheVariants.{Start, Names, Items, Done}
-use Rattle.nutlisting.specs.Content.{listing_of}
+use Rattle.nutlisting.specs.Items.{listing_of}
 use Rattle.nutlisting.specs.Items.{lines_of, edge_line, ups_item, variable_item, rw_items}
 use Rattle.nutlisting.specs.Items.{command_item, enum_item, enum_values_of, range_item, ranges_of}
 use Rattle.nutlisting.specs.Items.{client_item}
 use Rattle.nutlisting.specs.Lines.{IsWholeLine}
-use Rattle.nutlisting.specs.Rest.{Position, rest}
+use Rattle.nutlisting.specs.Items.{Position, rest}
 
 -- The names after a name, all of them where none is given.
 abbrev pub names_after : List (List ℕ) → Option (List ℕ) → List (List ℕ)

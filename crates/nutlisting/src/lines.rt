@@ -11,8 +11,8 @@ ghost use Rattle.nutwords.specs.declared.limits.TheConstants.{LINE_LIMIT, VALUE_
 ghost use Rattle.nutlisting.specs.Shown.{description_of, text_or_unavailable};
 ghost use Rattle.nutlisting.specs.Items.{variable_item, command_item, range_item, client_item};
 ghost use Rattle.nutlisting.specs.Lines.{IsWholeLine};
-ghost use Rattle.nutlisting.specs.Spaced.{spaced};
-ghost use Rattle.nutlisting.specs.Tracked.{progress_words};
+ghost use Rattle.nutlisting.specs.Lines.{spaced};
+ghost use Rattle.nutlisting.specs.Lines.{progress_words};
 ghost use Rattle.nutlisting.specs.Types.{type_words};
 
 mod types;

@@ -4,17 +4,17 @@ ghost use Rattle.std.specs.Borrow.{sem};
 ghost use Rattle.std.specs.Io.BufRead.{Rests};
 ghost use Rattle.std.specs.Str.{bytes_eq};
 ghost use Rattle.nutlisting.specs.Counts.{lines, count_more};
-ghost use Rattle.nutlisting.specs.Filled.{what_fits, what_stays};
+ghost use Rattle.nutlisting.specs.Counts.{what_fits, what_stays};
 ghost use Rattle.nutlisting.specs.Items.{text_of, client_listing};
 ghost use Rattle.nutlisting.specs.Owed.{owed, rest_of, IsOutbox, HasPlaceForClients};
-ghost use Rattle.nutlisting.specs.Rest.{rest};
-ghost use Rattle.nutlisting.specs.declared.listing.clients.TheConstants.{SESSION_LIMIT};
+ghost use Rattle.nutlisting.specs.Items.{rest};
+ghost use Rattle.nutusers.specs.declared.limits.TheConstants.{SESSION_LIMIT};
 ghost use Rattle.nutlisting.specs.declared.outbox.TheConstants.{OWED_LIMIT};
-ghost use Rattle.nutlisting.specs.declared.byte_queue.TheConstants.{QUEUE_LIMIT};
+ghost use Rattle.nutlisting.specs.declared.outbox.TheConstants.{QUEUE_LIMIT};
 
-use crate::byte_queue::{ByteQueue, QUEUE_LIMIT};
 use crate::cursor::Cursor;
 use crate::listing::{Clients, Listing};
+use nutio::ByteQueue;
 use nutwords::{Line, UpsName};
 use std::alloc::{AllocError, Global};
 use std::marker::Model;
@@ -22,6 +22,9 @@ use std::mem;
 
 /// The next line of a client is executed while at most so many bytes are owed to it.
 pub const OWED_LIMIT: usize = 4096;
+
+/// How many bytes the queue of a client holds.
+pub const QUEUE_LIMIT: usize = 8192;
 
 /// What a session owes its client: a queue of bytes, and one cursor for what doesn't fit in it yet.
 ///

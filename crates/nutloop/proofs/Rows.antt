@@ -22,7 +22,8 @@ use Rattle.nutcore.specs.Notes.{notes_of}
 use Rattle.nutcore.specs.Recording.{Recorded, Continues}
 use Rattle.nutcore.specs.Session.{SessionState}
 use Rattle.nutcore.specs.Ups.{UpsState}
-use Rattle.nutcore.specs.Server.{ServerState, session, ups_at}
+use Rattle.nutcore.specs.Server.{ServerState, session}
+use Rattle.nutcore.specs.Parts.{ups_at}
 use Rattle.nutcore.specs.Step.{Step, offered}
 use Rattle.nutcore.specs.Calls.{room_of, standing_of, is_finished, owed_to, Reads, ReadsUps}
 use Rattle.nutcore.specs.DriverHistory.{has_driver}

@@ -15,8 +15,10 @@ use Rattle.nutcore.specs.declared.event.Event.TheVariants as event
 use Rattle.nutcore.specs.declared.event.Outcome.{Outcome}
 use Rattle.nutcore.specs.Session.{SessionState}
 use Rattle.nutcore.specs.Ups.{UpsState}
-use Rattle.nutcore.specs.Server.{ServerState, session, ups_at}
-use Rattle.nutcore.specs.Step.{after, accepted_bytes, driver_may_take}
+use Rattle.nutcore.specs.Server.{ServerState, session}
+use Rattle.nutcore.specs.Parts.{ups_at}
+use Rattle.nutcore.specs.Step.{after, accepted_bytes}
+use Rattle.nutcore.specs.DriverEvents.{driver_may_take}
 use Rattle.nutcore.specs.Calls.{room_of}
 use Rattle.nutcore.specs.Run.{Run}
 use Rattle.nutcore.specs.History.{asked_in_event, taken_in_event, asked, answers, executed}

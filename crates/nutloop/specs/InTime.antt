@@ -1,9 +1,9 @@
 -- In time: what waits at a look at the system is read, answered and written before the next look.
 use Rattle.std.specs.Prelude.{◌≡◌, ◌⊎◌, ◌<◌, ℕ, zero, suc, Bool, true, false, List, [], ◌∷◌, ◌++◌}
 use Rattle.std.specs.Prelude.{Option, Some, None, length, take}
-use Rattle.nutwords.specs.SplitLine.{has_lf}
-use Rattle.nutwords.specs.Text.{with_lf}
-use Rattle.nutlisting.specs.declared.byte_queue.TheConstants.{QUEUE_LIMIT}
+use Rattle.nutwords.specs.Cut.{has_lf}
+use Rattle.nutwords.specs.SplitLine.{with_lf}
+use Rattle.nutlisting.specs.declared.outbox.TheConstants.{QUEUE_LIMIT}
 use Rattle.nutcore.specs.declared.event.Event.{Event}
 use Rattle.nutcore.specs.declared.event.Outcome.{Outcome}
 use Rattle.nutcore.specs.declared.event.Outcome.TheVariants.{Fed}

@@ -1,5 +1,3 @@
-pub mod Clock
-pub mod Fault
 pub mod Ids
 pub mod NutBytes
 pub mod Numbers

@@ -1,10 +1,16 @@
 -- The numbers of the loop.
-use Rattle.std.specs.Prelude.{◌≡◌, ◌+◌, ◌-◌, ◌^◌}
+use Rattle.std.specs.Prelude.{◌≡◌, ◌+◌, ◌-◌, ◌^◌, ℕ}
 use Rattle.nutloop.specs.declared.ids.TheConstants.{ID_SIZE}
 use Rattle.nutloop.specs.declared.over_mio.closing.TheConstants.{CLOSING_LIMIT, CLOSING_TICKS}
 use Rattle.nutloop.specs.declared.over_mio.pass.TheConstants.{STOPS, TURNS_PER_LOOK}
 use Rattle.nutloop.specs.declared.serving.TheConstants.{TURN_LIMIT}
 use Rattle.nutloop.specs.declared.turns.TheConstants.{DRIVER_READ_LIMIT}
+use Rattle.nutloop.specs.declared.fault.LoopFault.{LoopFault}
+use Rattle.nutloop.specs.declared.fault.LoopFault.TheVariants.{Ready, Accept}
+
+abbrev pub number_of : LoopFault → ℕ
+number_of Ready = 1
+number_of Accept = 2
 
 pub record Numbers : Type 0 where
   pub driver_read : DRIVER_READ_LIMIT ≡ 512

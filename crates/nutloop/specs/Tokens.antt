@@ -1,6 +1,6 @@
 -- Tokens: 0 is the listener's, 1 to 32 are the drivers', 33 to 96 the clients', by their places.
 use Rattle.std.specs.Prelude.{◌<◌, ◌-◌, ℕ, ⊤, if◌then◌else◌, nat_lt}
-use Rattle.nutlisting.specs.declared.listing.clients.TheConstants.{SESSION_LIMIT}
+use Rattle.nutusers.specs.declared.limits.TheConstants.{SESSION_LIMIT}
 use Rattle.nutusers.specs.declared.limits.TheConstants.{UPS_LIMIT}
 use Rattle.nutloop.specs.declared.over_mio.tokens.Source.{Source}
 use Rattle.nutloop.specs.declared.over_mio.tokens.Source.TheVariants.{Listener, Driver, Client, Closing}

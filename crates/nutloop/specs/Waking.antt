@@ -1,6 +1,7 @@
 -- How long a look at the system may wait: nothing that is due is slept over.
 use Rattle.std.specs.Prelude.{ℕ, Bool, false, List, [], ◌∷◌, suc, ◌&&◌, ◌||◌, is_none, is_some}
-use Rattle.std.specs.Prelude.{if◌then◌else◌, min, fold, slice_get}
+use Rattle.std.specs.Prelude.{if◌then◌else◌, min, fold, slice_get, ◌≡◌, ◌+◌, ◌-◌, ◌^◌, ◌<◌, Option}
+use Rattle.std.specs.Prelude.{Some, None, nat_lt}
 use Rattle.std.specs.List.{list_any}
 use Rattle.std.specs.Option.{option_and_then}
 use Rattle.nutcore.specs.Server.{ServerState}
@@ -8,7 +9,26 @@ use Rattle.nutcore.specs.Due.{due_second, never}
 use Rattle.nutloop.specs.declared.over_mio.MioSockets.{MioSockets}
 use Rattle.nutloop.specs.declared.over_mio.closing.Closing.{Closing}
 use Rattle.nutloop.specs.declared.over_mio.drivers.Driver.{Driver}
-use Rattle.nutloop.specs.Clock.{next_second}
+use Rattle.nutloop.specs.declared.sockets.Ready.{Ready}
+use Rattle.nutloop.specs.declared.sockets.Ready.TheVariants.{Tick}
+
+-- The second after this one, as long as there is one.
+abbrev pub next_second : ℕ → ℕ
+next_second second = min (second + 1) (2 ^ 64 - 1)
+
+-- A tick is due where the clock has a later second than that of the last one.
+abbrev pub due_tick : ℕ → ℕ → Option ℕ
+due_tick last now = if nat_lt last now then Some now else None
+
+-- The second of a tick.
+abbrev pub tick_in : Ready → Option ℕ
+tick_in (Tick second) = Some second
+tick_in _ = None
+
+-- A tick has a new second, once. Without one the second is the same.
+abbrev pub Ticks : Option ℕ → ℕ → ℕ → Type 0
+Ticks (Some second) before now = (before < second) × (now ≡ second)
+Ticks None before now = now ≡ before
 
 -- A driver that isn't connected is tried again each second, if its socket has a path.
 abbrev pub is_absent : ServerState → ℕ → Driver → Bool

@@ -15,7 +15,7 @@ pub enum LoopFault {
 }
 
 impl LoopFault {
-    ghost use Rattle.nutloop.specs.Fault.{number_of};
+    ghost use Rattle.nutloop.specs.Numbers.{number_of};
 
     /// The fault's number, 1 or 2.
     pub fn number(self) -> u8

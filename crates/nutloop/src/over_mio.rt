@@ -4,7 +4,7 @@ ghost use Rattle.std.specs.Option.{option_map};
 ghost use Rattle.nutio.specs.Ends.{IsCounted, counted};
 ghost use Rattle.nutloop.specs.Sockets.{Answers, AtMost, Begins, Knows, ReportsCall, read_call};
 ghost use Rattle.std.specs.Duration.{as_nanos};
-ghost use Rattle.nutloop.specs.Clock.{Ticks, due_tick, tick_in};
+ghost use Rattle.nutloop.specs.Waking.{Ticks, due_tick, tick_in};
 ghost use Rattle.nutloop.specs.Ids.{more_due};
 ghost use Rattle.nutloop.specs.NutBytes.{HandsOn};
 ghost use Rattle.nutloop.specs.OverMio.{GivesTurn, TouchesOnly, error_of, passing_of, refused, told_of};

@@ -6,7 +6,7 @@ use Rattle.std.specs.Cmp.{IsTotalOrder}
 use Rattle.std.specs.Fn.{Once, FnOnceReturnsAtMut}
 use Rattle.std.specs.Prelude.{◌≡◌}
 use denote.Ref.{MutBor}
-use Rattle.nutmap.specs.Changed.{ChangesValue}
+use Rattle.nutmap.specs.Entries.{ChangesValue}
 use Rattle.nutmap.proofs.Ordered.{Rises, lookup_left, lookup_middle, lookup_right, insert_left}
 use Rattle.nutmap.proofs.Ordered.{insert_middle, insert_right}
 

@@ -2,7 +2,7 @@
 ghost use Rattle.std.specs.Prelude.{◌≡◌, IsTrue, IsFalse};
 ghost use Rattle.std.specs.Fn.{FnOnceReturnsAtMut};
 ghost use Rattle.std.specs.Map.{keys_of};
-ghost use Rattle.nutmap.specs.Changed.{ChangesValue};
+ghost use Rattle.nutmap.specs.Entries.{ChangesValue};
 ghost use Rattle.nutmap.specs.Marked.{has_marked, KeepsMarks};
 ghost use Rattle.nutmap.specs.Tree.{entries_of, height_of};
 

@@ -3,7 +3,7 @@ ghost use Rattle.std.specs.Prelude.{◌≡◌, ◌+◌, ◌≤◌, [], length, m
 ghost use Rattle.std.specs.Option.{option_copied, option_map};
 ghost use Rattle.std.specs.Map.{remove_entry};
 ghost use Rattle.std.specs.BTreeMap.{insert_entry, is_at};
-ghost use Rattle.nutmap.specs.Changed.{ChangesValue};
+ghost use Rattle.nutmap.specs.Entries.{ChangesValue};
 ghost use Rattle.nutmap.specs.Digits.{most_nodes};
 ghost use Rattle.nutmap.specs.Entries.{value_at, entry_after, entries_after, HasRisingKeys};
 ghost use Rattle.nutmap.specs.Marked.{marked_after, KeepsMarks};

@@ -14,10 +14,12 @@ use Rattle.nutcore.specs.declared.event.Event.TheVariants.{Close, Id}
 use Rattle.nutusers.specs.UpsList.{Ups}
 use Rattle.nutusers.specs.Users.{User}
 use Rattle.nutusers.specs.Descriptions.{Descriptions}
-use Rattle.nutcore.specs.Server.{ServerState, session, ups_at, new_server}
+use Rattle.nutcore.specs.Server.{ServerState, session, new_server}
+use Rattle.nutcore.specs.Parts.{ups_at}
 use Rattle.nutcore.specs.Headline.{IsLawful, WhatWasSentAndIsOwedIsTheAnswers}
 use Rattle.nutcore.specs.Pump.{owed_of}
-use Rattle.nutcore.specs.Step.{after, may_take, driver_may_take}
+use Rattle.nutcore.specs.Step.{after, may_take}
+use Rattle.nutcore.specs.DriverEvents.{driver_may_take}
 use Rattle.nutcore.specs.Run.{Run}
 use Rattle.nutcore.specs.declared.event.Outcome.{Outcome}
 use Rattle.nutcore.specs.declared.event.Peer.{Peer}

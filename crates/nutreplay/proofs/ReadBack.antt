@@ -47,7 +47,7 @@ use Rattle.nutreplay.specs.declared.script.action.Action.TheVariants.{Happens, T
 use Rattle.nutreplay.specs.declared.script.action.Form.TheVariants.{Part, Hex}
 use Rattle.nutreplay.specs.declared.script.action.TheConstants.{UNLISTED}
 use Rattle.nutreplay.specs.Script.{ScriptLine}
-use Rattle.nutcore.specs.Server.{read_max_age}
+use Rattle.nutcore.specs.Limits.{read_max_age}
 use Rattle.nutcore.specs.declared.max_age.TheConstants.{MAX_AGE_LEAST, MAX_AGE_MOST, MAX_AGE_DEFAULT}
 use Rattle.nutcore.specs.Recording.{came_from}
 use Rattle.nutreplay.specs.Script.{split_at_space, age_by, age_in, age_of_lines, asks_nothing}

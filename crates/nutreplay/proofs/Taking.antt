@@ -13,14 +13,16 @@ use Rattle.std.proofs.lemmas.List.{take-take, length-take}
 use Rattle.nutcore.specs.Session.{SessionState}
 use Rattle.nutusers.specs.declared.ups_list.UpsId.{UpsId}
 use Rattle.nutcore.specs.Ups.{UpsState}
-use Rattle.nutcore.specs.Server.{ServerState, session, ups_at}
+use Rattle.nutcore.specs.Server.{ServerState, session}
+use Rattle.nutcore.specs.Parts.{ups_at}
 use Rattle.nutcore.specs.Pump.{owed_of}
-use Rattle.nutcore.specs.Step.{may_take, driver_may_take, offered}
+use Rattle.nutcore.specs.Step.{may_take, offered}
+use Rattle.nutcore.specs.DriverEvents.{driver_may_take}
 use Rattle.nutcore.specs.Calls.{is_connected, owed_to}
 use Rattle.nutcore.specs.DriverOrders.{taken_in_event as driver_taken_in_event, owed_to_driver}
 use Rattle.nutcore.specs.History.{taken_in_event}
 use Rattle.nutcore.specs.declared.event.Event.TheVariants.{Took, DriverTook}
-use Rattle.nutlisting.specs.declared.byte_queue.TheConstants.{QUEUE_LIMIT}
+use Rattle.nutlisting.specs.declared.outbox.TheConstants.{QUEUE_LIMIT}
 use Rattle.nutreplay.specs.declared.transcript.sent.Taken.{Taken}
 use Rattle.nutcore.specs.declared.event.Peer.{Peer}
 use Rattle.nutcore.specs.declared.event.Peer.TheVariants.{Client, Driver}

@@ -1,6 +1,5 @@
 pub mod Script
 pub mod Transcript
-pub mod ReplayFault
 pub mod OneRun
 pub mod Written
 pub mod Recorded

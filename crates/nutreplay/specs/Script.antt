@@ -10,10 +10,10 @@ use Rattle.nuttracking.specs.Id.{read_id}
 use Rattle.nutwords.specs.Natural.{read_natural}
 use Rattle.nutwords.specs.Reading.{read_ups_name, read_address}
 use Rattle.nutwords.specs.Text.{lines_of, is_silent}
-use Rattle.nutwords.specs.Text.{with_lf}
+use Rattle.nutwords.specs.SplitLine.{with_lf}
 use Rattle.nutusers.specs.declared.ups_list.UpsId.{UpsId}
 use Rattle.nutusers.specs.UpsList.{Ups, place_of, id_at}
-use Rattle.nutcore.specs.Server.{read_max_age}
+use Rattle.nutcore.specs.Limits.{read_max_age}
 use Rattle.nutcore.specs.Recording.{came_from}
 use Rattle.nutcore.specs.declared.max_age.TheConstants.{MAX_AGE_DEFAULT, MAX_AGE_MOST}
 use Rattle.nutcore.specs.declared.event.Event.{Event}

@@ -1,6 +1,6 @@
 -- What a replay does to the server, and its transcript.
 use Rattle.std.specs.Prelude.{◌≡◌, ◌≢◌, ℕ, ◌+◌, ◌-◌, Bool, false, List, [], ◌∷◌, ◌++◌, Option, Some}
-use Rattle.std.specs.Prelude.{None, ◌==◌, nat_lt, if◌then◌else◌, length, slice_get, codes}
+use Rattle.std.specs.Prelude.{None, ◌==◌, nat_lt, if◌then◌else◌, length, slice_get, codes, ◌⊎◌}
 use Rattle.std.specs.List.{flat_map}
 use Rattle.std.specs.Fmt.{decimal}
 use Rattle.nutusers.specs.UpsList.{Ups, id_at}
@@ -11,8 +11,9 @@ use Rattle.nutcore.specs.declared.event.Peer.TheVariants.{Client, Driver}
 use Rattle.nutcore.specs.declared.event.Outcome.{Outcome}
 use Rattle.nutcore.specs.declared.event.Outcome.TheVariants.{Done, Fed, Opened, Refused}
 use Rattle.nutcore.specs.declared.event.Fault.{Fault}
-use Rattle.nutcore.specs.Numbers.{number_of_fault}
-use Rattle.nutcore.specs.Server.{ServerState, session, ups_at}
+use Rattle.nutcore.specs.Limits.{number_of_fault}
+use Rattle.nutcore.specs.Server.{ServerState, session}
+use Rattle.nutcore.specs.Parts.{ups_at}
 use Rattle.nutcore.specs.Ups.{UpsState}
 use Rattle.nutcore.specs.Step.{Step, offered}
 use Rattle.nutcore.specs.History.{taken_in_event}
@@ -20,9 +21,10 @@ use Rattle.nutcore.specs.DriverOrders.{taken_in_event as driver_taken_in_event}
 use Rattle.nutcore.specs.Calls.{owed_to}
 use Rattle.nutreplay.specs.declared.script.action.Action.{Action}
 use Rattle.nutreplay.specs.declared.script.action.Action.TheVariants as asked
-use Rattle.nutreplay.specs.Script.{ScriptLine}
+use Rattle.nutreplay.specs.Script.{ScriptLine, took, actions_of}
 use Rattle.nutreplay.specs.declared.transcript.sent.Taken.{Taken}
-use Rattle.nutreplay.specs.Script.{took, actions_of}
+use Rattle.nutreplay.specs.declared.replaying.ReplayFault.{ReplayFault}
+use Rattle.nutreplay.specs.declared.replaying.ReplayFault.TheVariants.{BadEvent, Memory, Write}
 
 -- A transcript after the events so far. server: what they left. text: the notes of them. clients:
 -- the ids, in the order of opening. taken: what clients and drivers took, in order.
@@ -176,3 +178,13 @@ pub record IsTextAfter (lines : List ScriptLine) (begin : TranscriptState) (whol
 -- The output of a script over this server: what the actions of its lines, in order, do to it.
 abbrev pub IsOutput : ServerState → List ℕ → List ℕ → Type 0
 IsOutput s script = IsTextAfter (actions_of s.list script) (new_transcript s)
+
+-- 1 a bad line of the script, 2 no memory, 3 the output failed.
+abbrev pub number_of_replay_fault : ReplayFault → ℕ
+number_of_replay_fault (BadEvent line) = 1
+number_of_replay_fault Memory = 2
+number_of_replay_fault Write = 3
+
+-- Memory was refused, or this is the first bad line.
+abbrev pub FailsAt : Option ℕ → ReplayFault → Type 0
+FailsAt bad fault = (fault ≡ Memory) ⊎ ((n : ℕ) × (fault ≡ BadEvent n) × (bad ≡ Some n))

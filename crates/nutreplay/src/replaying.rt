@@ -3,7 +3,7 @@ ghost use Rattle.std.specs.Prelude.{◌≡◌, ◌⊎◌, ℕ, List, OnOk, IfOk,
 ghost use Rattle.nutio.specs.Ends.{Written, WriteFailed};
 ghost use Rattle.nutreplay.specs.Script.{first_bad_line};
 ghost use Rattle.nutreplay.specs.Transcript.{IsOutput};
-ghost use Rattle.nutreplay.specs.ReplayFault.{FailsAt, number_of_replay_fault};
+ghost use Rattle.nutreplay.specs.Transcript.{FailsAt, number_of_replay_fault};
 ghost use Rattle.nutreplay.specs.declared.replaying.ReplayFault.TheVariants.{Memory};
 
 use crate::transcript::Transcript;

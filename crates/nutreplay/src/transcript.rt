@@ -2,10 +2,11 @@
 //! what was sent.
 ghost use Rattle.std.specs.Prelude.{◌≡◌, ◌++◌, ◌-◌, ◌<◌, ◌^◌, length, IfErr, IfOk, OnOk, None};
 ghost use Rattle.nutcore.specs.Step.{offered};
-ghost use Rattle.nutcore.specs.Server.{session, ups_at};
+ghost use Rattle.nutcore.specs.Server.{session};
+ghost use Rattle.nutcore.specs.Parts.{ups_at};
 ghost use Rattle.nutcore.specs.History.{taken_in_event};
 ghost use Rattle.nutcore.specs.DriverOrders.{taken_in_event as driver_taken_in_event};
-ghost use Rattle.nutreplay.specs.ReplayFault.{FailsAt};
+ghost use Rattle.nutreplay.specs.Transcript.{FailsAt};
 ghost use Rattle.nutreplay.specs.Script.{actions_of, first_bad_line, took};
 ghost use Rattle.nutreplay.specs.Transcript.{new_transcript, note_of_refusal, held_count, held_total, note_of, opened_by, taken_by, Happens, TakesAll, IsDone, AreDone, IsTextAfter, offered_to, count_offered};
 

@@ -4,4 +4,3 @@ pub mod Inbox
 pub mod Request
 pub mod Reply
 pub mod Session
-pub mod State

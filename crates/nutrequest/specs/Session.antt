@@ -10,6 +10,18 @@ use Rattle.nutrequest.specs.declared.request.Request.{Request}
 use Rattle.nutrequest.specs.declared.faults.ClientFault.{ClientFault}
 use Rattle.nutrequest.specs.declared.faults.ClientFault.TheVariants.{Read, Write, EarlyEnd, ErrWord}
 use Rattle.nutrequest.specs.declared.faults.ClientFault.TheVariants.{BadReply, Memory}
+use Rattle.nutrequest.specs.Inbox.{unread}
+use Rattle.nutrequest.specs.declared.session.Session.{Session}
+
+-- The bytes read past the last reply.
+abbrev pub unread_of : {R W : Type 0} → Session R W → List ℕ
+unread_of session = unread session.inbox
+
+abbrev pub reader_of : {R W : Type 0} → Session R W → R
+reader_of session = session.reader
+
+abbrev pub writer_of : {R W : Type 0} → Session R W → W
+writer_of session = session.writer
 
 -- Why no reply is given, the bytes that come being read so: what came decides it, whatever follows;
 -- or what came is unfinished, and the reader ended or failed; or memory was refused. No

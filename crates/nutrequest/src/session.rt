@@ -2,7 +2,7 @@
 ghost use Rattle.std.specs.Prelude.{◌≡◌, [], Err, OnErr, OnOk, MatchResult, true, false};
 ghost use Rattle.std.specs.Result.{result_map_both};
 ghost use Rattle.nutrequest.specs.Inbox.{unread};
-ghost use Rattle.nutrequest.specs.State.{unread_of, reader_of, writer_of};
+ghost use Rattle.nutrequest.specs.Session.{unread_of, reader_of, writer_of};
 ghost use Rattle.nutrequest.specs.Session.{ReplyGives, AskGives};
 
 use crate::inbox::Inbox;

@@ -1,10 +1,20 @@
 -- A line of a file with sections, as upsd.users(5) and ups.conf(5) have them.
 use Rattle.std.specs.Prelude.{ℕ, Bool, true, false, ◌==◌, List, [], ◌∷◌, codes, Option, None, Some}
-use Rattle.std.specs.Prelude.{if◌then◌else◌}
+use Rattle.std.specs.Prelude.{if◌then◌else◌, length, nat_lt}
 use Rattle.std.specs.Option.{option_map, option_map_or}
 use Rattle.std.specs.Str.{bytes_eq}
+use Rattle.std.specs.Result.{result_ok}
 use Rattle.nutwords.specs.Text.{is_silent}
-use Rattle.nutusers.specs.Line.{words_in}
+use Rattle.nutwords.specs.Scan.{read_line}
+use Rattle.nutwords.specs.declared.limits.TheConstants.{LINE_LIMIT}
+use Rattle.nutwords.specs.Word.{bytes_of}
+use Rattle.nutusers.specs.declared.config_line.ConfigLine.{ConfigLine as Given}
+use Rattle.nutusers.specs.declared.config_line.ConfigLine.TheVariants.{Silent, Malformed, Section}
+use Rattle.nutusers.specs.declared.config_line.ConfigLine.TheVariants.{Setting, Upsmon}
+
+-- The words of a line that says something, unless it is too long or isn't a line of words.
+abbrev pub words_in : List ℕ → Option (List (List ℕ))
+words_in line = if nat_lt LINE_LIMIT (length line) then None else result_ok (read_line line)
 
 -- silent: it says nothing. section: `[name]`. setting: `key = value`. upsmon: `upsmon role`.
 pub data ConfigLine : Type 0 where
@@ -52,3 +62,11 @@ config_line_of (first ∷ second ∷ third ∷ fourth ∷ words) = malformed
 abbrev pub read_config_line : List ℕ → ConfigLine
 read_config_line line =
     if is_silent line then silent else option_map_or config_line_of (words_in line) malformed
+
+-- The line by the bytes of its words.
+abbrev pub line_given : Given → ConfigLine
+line_given Silent = silent
+line_given Malformed = malformed
+line_given (Section name) = section (bytes_of name)
+line_given (Setting key value) = setting (bytes_of key) (bytes_of value)
+line_given (Upsmon role) = upsmon (bytes_of role)

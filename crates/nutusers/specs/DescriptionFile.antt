@@ -8,7 +8,7 @@ use Rattle.nutwords.specs.Reading.{is_name}
 pub use Rattle.nutusers.specs.Descriptions.{Texts, text_at, Descriptions, no_descriptions}
 use Rattle.nutusers.specs.File.{Format, bad_value_unless}
 use Rattle.nutwords.specs.Text.{is_silent}
-use Rattle.nutusers.specs.Line.{words_in}
+use Rattle.nutusers.specs.ConfigLine.{words_in}
 use Rattle.nutwords.specs.NameOrder.{byte_order}
 use Rattle.nutusers.specs.Texts.{is_description}
 use Rattle.nutusers.specs.declared.fault.Cause.{Cause}

@@ -1,9 +1,7 @@
 pub mod Texts
 pub mod Credentials
-pub mod Line
 pub mod File
 pub mod ConfigLine
-pub mod ReadConfigLine
 pub mod Sections
 pub mod SectionsStep
 pub mod Rights

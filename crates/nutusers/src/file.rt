@@ -2,7 +2,7 @@
 ghost use Rattle.std.specs.Prelude.{◌≡◌, ◌≢◌, ℕ, List, IfOk, IfErr, OnOk, is_some, true, Some, None, if◌then◌else◌};
 ghost use Rattle.nutusers.specs.File.{Means, IsRefused, IsByLines, format_of, once_fault};
 ghost use Rattle.nutusers.specs.SectionsStep.{verdict};
-ghost use Rattle.nutusers.specs.Line.{words_in};
+ghost use Rattle.nutusers.specs.ConfigLine.{words_in};
 ghost use Rattle.nutusers.specs.Texts.{is_description};
 ghost use Rattle.nutwords.specs.Text.{lines_of};
 

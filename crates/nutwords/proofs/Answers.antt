@@ -3,8 +3,9 @@ use Rattle.std.proofs.Common.{◌≡◌, ℕ, true, false, List, [], ◌∷◌, 
 use Rattle.std.proofs.Common.{refl, sym, ap, ◌∙◌, subst, append_assoc, All}
 use Rattle.std.specs.List.{concat}
 use Rattle.std.proofs.lemmas.List.Elements.{All-head, All-tail}
-use Rattle.nutwords.specs.SplitLine.{split_line, has_lf}
-use Rattle.nutwords.specs.Text.{with_lf}
+use Rattle.nutwords.specs.SplitLine.{split_line}
+use Rattle.nutwords.specs.Cut.{has_lf}
+use Rattle.nutwords.specs.SplitLine.{with_lf}
 use Rattle.nutwords.specs.Answers.{begins_listing, ends_listing, GoesToEnd, ends, goes_on, IsAnswer}
 use Rattle.nutwords.specs.Answers.{one_line, listing, FirstAnswersAreTheFirst}
 use Rattle.nutwords.specs.Answers.{AnswersAreCutInOneWay}

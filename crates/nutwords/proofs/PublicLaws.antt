@@ -12,9 +12,9 @@ use Rattle.nutwords.specs.Meaning.{WordsOrFault, NotBoth, OneListOfWords, OneFau
 use Rattle.nutwords.specs.Meaning.{ReadLineIsTheGrammar, ReadLineIsTheFault}
 use Rattle.nutwords.specs.Spelled.{QuotedIsSpelled, BareIsSpelled, PlainStandsForItself}
 use Rattle.nutwords.specs.Spelling.{QuotedIsShort}
-use Rattle.nutwords.specs.SplitLine.{FirstLineIsCutOff, NoLineWithoutLf, HeldGoesInFront}
-use Rattle.nutwords.specs.SplitLine.{FirstLineAndTheRestAreAll, FirstLineIsTheFrontOfItsLength}
-use Rattle.nutwords.specs.SplitLine.{FirstLfEndsTheFirstLine}
+use Rattle.nutwords.specs.Cut.{FirstLineIsCutOff, NoLineWithoutLf, HeldGoesInFront}
+use Rattle.nutwords.specs.Cut.{FirstLineAndTheRestAreAll, FirstLineIsTheFrontOfItsLength}
+use Rattle.nutwords.specs.Cut.{FirstLfEndsTheFirstLine}
 use Rattle.nutwords.specs.WholeLines.{WholeLinesAreTheCut, WholeLinesAndTheRestAreAll, RestIsThatBehindTheFirst}
 use Rattle.nutwords.proofs.Answers as answers
 use Rattle.nutwords.proofs.Backslashes as backslashes

@@ -4,7 +4,8 @@ use Rattle.std.proofs.Common.{◌∷◌, ◌++◌, length, drop, Some, None, ref
 use Rattle.std.proofs.Common.{◌∙◌, arith, append-nil, length-append}
 use Rattle.std.specs.Prelude.{◌||◌}
 use Rattle.arrayvec.specs.ArrayVec.{ArrayVec}
-use Rattle.nutwords.specs.SplitLine.{split_line, has_lf}
+use Rattle.nutwords.specs.SplitLine.{split_line}
+use Rattle.nutwords.specs.Cut.{has_lf}
 use Rattle.nutwords.specs.Cut.{Cuts}
 use Rattle.nutwords.specs.Found.{FindsLine}
 use Rattle.nutwords.specs.declared.cut.Cut.TheVariants.{Line}

@@ -8,10 +8,11 @@ use Rattle.std.proofs.lemmas.Bool.{cond-true, cond-false, lt-ltb, le-leb, lt-leb
 use Rattle.std.proofs.lemmas.Bool.Decides.{nat_tests}
 use Rattle.std.proofs.lemmas.List.Sums.{take_while-cons}
 use Rattle.std.proofs.Math.Seq.{drop-append-add, take-append_seam}
-use Rattle.nutwords.specs.SplitLine.{split_line, first_line, rest_after, FirstLineAndTheRestAreAll}
-use Rattle.nutwords.specs.SplitLine.{FirstLineIsTheFrontOfItsLength, FirstLfEndsTheFirstLine}
+use Rattle.nutwords.specs.SplitLine.{split_line, first_line, rest_after}
+use Rattle.nutwords.specs.Cut.{FirstLineAndTheRestAreAll}
+use Rattle.nutwords.specs.Cut.{FirstLineIsTheFrontOfItsLength, FirstLfEndsTheFirstLine}
 use Rattle.nutwords.specs.Lines.{Tail, Unfinished, Overlong, IsCutInto, line as one_line, unfinished, overlong}
-use Rattle.nutwords.specs.Text.{with_lf}
+use Rattle.nutwords.specs.SplitLine.{with_lf}
 use Rattle.nutwords.specs.WholeLines.{joined, ended_lines, is_short, whole_lines, unfinished_after}
 use Rattle.nutwords.specs.WholeLines.{is_too_long, tail_after}
 use Rattle.nutwords.specs.declared.limits.TheConstants.{LINE_ROOM}

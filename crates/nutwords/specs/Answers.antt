@@ -1,8 +1,8 @@
 -- The shape of an answer (RFC 9271): one line, or one listing from its line BEGIN to its line END.
 use Rattle.std.specs.Prelude.{◌≡◌, ℕ, Bool, true, false, List, ◌++◌, All, codes, nat_eq}
 use Rattle.std.specs.List.{concat, starts_with}
-use Rattle.nutwords.specs.SplitLine.{has_lf}
-use Rattle.nutwords.specs.Text.{with_lf}
+use Rattle.nutwords.specs.Cut.{has_lf}
+use Rattle.nutwords.specs.SplitLine.{with_lf}
 
 -- The line is the first of a listing; it is the last of one.
 abbrev pub begins_listing : List ℕ → Bool

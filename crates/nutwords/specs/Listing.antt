@@ -5,7 +5,7 @@ use Rattle.nutwords.specs.Bytes.{is_lawful, is_bare}
 use Rattle.nutwords.specs.Grammar.{Reads}
 use Rattle.nutwords.specs.Spelling.{quoted}
 use Rattle.nutwords.specs.Frame.{line_of, begin_line, frame_lines, frame}
-use Rattle.nutwords.specs.Text.{with_lf}
+use Rattle.nutwords.specs.SplitLine.{with_lf}
 use Rattle.nutwords.specs.Lines.{IsCutInto, Unfinished}
 use Rattle.nutwords.specs.declared.limits.TheConstants.{LINE_ROOM}
 

@@ -1,12 +1,7 @@
--- A line with its LF, and the lines of files and scripts.
-use Rattle.std.specs.Prelude.{ℕ, Bool, true, not, find, ◌==◌, List, [], ◌∷◌, ◌++◌, Option}
-use Rattle.std.specs.Prelude.{if◌then◌else◌}
+-- The lines of files and scripts.
+use Rattle.std.specs.Prelude.{ℕ, Bool, true, not, find, ◌==◌, List, [], ◌∷◌, Option, if◌then◌else◌}
 use Rattle.std.specs.Option.{option_map_or}
 use Rattle.nutwords.specs.Bytes.{is_blank}
-
--- A line with its LF.
-abbrev pub with_lf : List ℕ → List ℕ
-with_lf line = line ++ 10 ∷ []
 
 -- A byte more in front of the first line.
 abbrev pub in_first_line : ℕ → List (List ℕ) → List (List ℕ)

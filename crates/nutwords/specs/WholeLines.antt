@@ -3,7 +3,7 @@ use Rattle.std.specs.Prelude.{◌≡◌, ℕ, Bool, List, [], ◌∷◌, ◌++�
 use Rattle.std.specs.Prelude.{take_while, nat_le, nat_lt, if◌then◌else◌}
 use Rattle.std.specs.List.{flat_map}
 use Rattle.nutwords.specs.SplitLine.{split_line}
-use Rattle.nutwords.specs.Text.{with_lf}
+use Rattle.nutwords.specs.SplitLine.{with_lf}
 use Rattle.nutwords.specs.Lines.{Tail, Unfinished, Overlong, IsCutInto}
 use Rattle.nutwords.specs.declared.limits.TheConstants.{LINE_ROOM}
 

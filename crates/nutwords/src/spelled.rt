@@ -1,6 +1,6 @@
 //! Words that borrow their spelling from the line.
 ghost use Rattle.std.specs.Prelude.{◌≡◌, ◌≤◌, ◌<◌, ◌==◌, length, IfSome, List, ℕ, MatchOption, true, false, [], is_ok, is_some, not};
-ghost use Rattle.nutwords.specs.Keyword.{is_word};
+ghost use Rattle.nutwords.specs.Spelling.{is_word};
 ghost use Rattle.nutwords.specs.Reading.{read_text};
 ghost use Rattle.nutwords.specs.Scan.{read_from, read_line};
 ghost use Rattle.nutwords.specs.Spelled.{spelled, holds_escapes, is_borrowed};

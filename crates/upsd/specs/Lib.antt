@@ -1,5 +1,4 @@
 pub mod Ending
-pub mod Files
 pub mod Reading
 pub mod Configuration
 pub mod Replaying

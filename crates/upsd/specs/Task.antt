@@ -8,13 +8,22 @@ use Rattle.clap.specs.Words.{found_of, first_value, one_text, rows_of, subcomman
 use Rattle.clap.specs.Words.{subcommand_rows_of}
 use Rattle.clap.specs.declared.parser.matches.ArgMatches.{ArgMatches}
 use Rattle.nutargs.specs.Words.{IsFlag}
-use Rattle.nutcore.specs.Server.{read_max_age}
+use Rattle.nutcore.specs.Limits.{read_max_age}
 use Rattle.nutcore.specs.declared.max_age.TheConstants.{MAX_AGE_DEFAULT}
 use Rattle.upsd.specs.declared.task.TheConstants.{DEFAULT_ADDRESS, RECORD_MIB}
 use Rattle.upsd.specs.declared.task.Service.{Service}
 use Rattle.upsd.specs.declared.task.Task.{Task}
 use Rattle.upsd.specs.declared.task.Task.TheVariants.{Serve, Replay}
-use Rattle.upsd.specs.Files.{AreNamedIn}
+use Rattle.upsd.specs.declared.files.Files.{Files}
+
+-- The files are those that the words name after --ups, --users, --vars, --ids and --record.
+pub record AreNamedIn (found : ArgMatches) (files : Files) : Type 0 where
+  pub ups : option_map (λ s. s.now) files.ups ≡ first_value (found_of found) (codes "ups")
+  pub users : option_map (λ s. s.now) files.users ≡ first_value (found_of found) (codes "users")
+  pub vars : option_map (λ s. s.now) files.vars ≡ first_value (found_of found) (codes "vars")
+  pub ids : option_map (λ s. s.now) files.ids ≡ first_value (found_of found) (codes "ids")
+  pub to_record : option_map (λ s. s.now) files.to_record
+      ≡ first_value (found_of found) (codes "record")
 
 -- The address is written after --listen; without it, it is the default one.
 abbrev pub IsAddressIn : ArgMatches → SocketAddr → Type 0

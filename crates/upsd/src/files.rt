@@ -6,7 +6,7 @@ ghost use Rattle.nutusers.specs.DescriptionFile.{descriptions_format, adds_text}
 ghost use Rattle.nutusers.specs.Descriptions.{no_descriptions};
 ghost use Rattle.nutcore.specs.Cost.{begun};
 ghost use Rattle.nutcore.specs.Server.{new_server};
-ghost use Rattle.upsd.specs.Files.{AreNamedIn};
+ghost use Rattle.upsd.specs.Task.{AreNamedIn};
 ghost use Rattle.upsd.specs.Configuration.{IsListOf, AreUsersOf, AreDescriptionsOf, AreMeant, FailsBy, FirstFails, IsServerOf};
 
 use crate::ending::{Ending, ending_of_file};

@@ -1,7 +1,7 @@
 //! The UPSs, by their ids.
 ghost use Rattle.std.specs.Prelude.{◌≡◌, map, length, MatchResult, OnOk, IfErr, Some, None, true};
 ghost use Rattle.std.specs.Option.{option_map};
-ghost use Rattle.nutcore.specs.Server.{ups_at};
+ghost use Rattle.nutcore.specs.Parts.{ups_at};
 ghost use Rattle.nutcore.specs.Ups.{after_tick};
 ghost use Rattle.nutcore.specs.Due.{due_among};
 ghost use Rattle.nutcore.specs.Promises.{IsNotConnected};

@@ -1,7 +1,8 @@
 //! The pump: which of a session's lines are executed, and what each does.
 ghost use Rattle.std.specs.Prelude.{◌≡◌, ◌≤◌, ◌<◌, length, map, slice_get, take, OnOk, OnErr, IsTrue, Some, None, []};
 ghost use Rattle.std.specs.Option.{option_map};
-ghost use Rattle.nutcore.specs.Server.{session, changed_at};
+ghost use Rattle.nutcore.specs.Server.{session};
+ghost use Rattle.nutcore.specs.Parts.{changed_at};
 ghost use Rattle.nutcore.specs.Pump.{next_line_for, after_line, held_of, wants_memory};
 ghost use Rattle.nutcore.specs.History.{owed, executions_until};
 ghost use Rattle.nutcore.specs.Notes.{notes_of_lines};
@@ -12,7 +13,7 @@ ghost use Rattle.nutlisting.specs.Counted.{IsCounted};
 ghost use Rattle.nutcore.specs.Promises.{IsAt, TakesLine, OrderFits, PumpGives, ListsClients, change_in, KeepsCost, cost_beyond, with_next};
 ghost use Rattle.nutanswer.specs.View.{addresses_at};
 ghost use Rattle.nutcore.specs.Reply.{changed_upses, changed_tracking, seen_client};
-ghost use Rattle.nutlisting.specs.declared.listing.clients.TheConstants.{SESSION_LIMIT};
+ghost use Rattle.nutusers.specs.declared.limits.TheConstants.{SESSION_LIMIT};
 ghost use Rattle.nutcore.specs.declared.TheConstants.{HELD_LIMIT};
 ghost use Rattle.nutcore.specs.declared.note.TheConstants.{NOTE_LIMIT};
 

@@ -3,7 +3,8 @@ ghost use Rattle.std.specs.Prelude.{◌≡◌, ◌≤◌, Some, length, option_c
 ghost use Rattle.std.specs.Option.{option_and_then};
 ghost use Rattle.nutcore.specs.Calls.{Reads, ReadsUps, standing_of};
 ghost use Rattle.nutcore.specs.Notes.{status_of, tick_notes};
-ghost use Rattle.nutcore.specs.Server.{session, ups_at};
+ghost use Rattle.nutcore.specs.Server.{session};
+ghost use Rattle.nutcore.specs.Parts.{ups_at};
 ghost use Rattle.nutcore.specs.declared.note.TheConstants.{NOTE_LIMIT};
 ghost use Rattle.nutusers.specs.declared.limits.TheConstants.{UPS_LIMIT};
 

@@ -1,6 +1,6 @@
 //! One pass over all peers, in which each is visited once.
 ghost use Rattle.std.specs.Prelude.{◌≡◌, ◌≤◌, Some, None, if◌then◌else◌, length};
-ghost use Rattle.nutlisting.specs.declared.listing.clients.TheConstants.{SESSION_LIMIT};
+ghost use Rattle.nutusers.specs.declared.limits.TheConstants.{SESSION_LIMIT};
 ghost use Rattle.nutloop.specs.Pass.{Visits, again, goes_on, may};
 ghost use Rattle.nutusers.specs.declared.limits.TheConstants.{UPS_LIMIT};
 

@@ -1,5 +1,5 @@
 use Rattle.std.proofs.Common.{◌++◌, ◌∙◌, ap, ap₂, subst}
-use Rattle.nutio.specs.Writing.{SendGives}
+use Rattle.nutio.specs.Ends.{SendGives}
 use Rattle.nutclient.specs.Ending.{why_line}
 use Rattle.nutclient.proofs.ending.report.Goals as goal
 

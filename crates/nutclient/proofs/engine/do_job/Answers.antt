@@ -1,5 +1,5 @@
 use Rattle.std.proofs.Common.{subst, sym, refl}
-use Rattle.nutrequest.specs.State.{unread_of, reader_of, writer_of}
+use Rattle.nutrequest.specs.Session.{unread_of, reader_of, writer_of}
 use Rattle.nutclient.specs.Ending.{EndsBy}
 use Rattle.nutclient.proofs.Done.{ends}
 use Rattle.nutclient.proofs.engine.do_job.Goals as goal

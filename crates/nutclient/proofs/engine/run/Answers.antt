@@ -1,6 +1,6 @@
 use Rattle.std.proofs.Common.{◌≡◌, [], arith, ◌+◌, Err, List, drop, inl, refl, sym, subst}
 use Rattle.std.proofs.lemmas.List.{at_drop_all}
-use Rattle.nutrequest.specs.State.{unread_of, reader_of, writer_of}
+use Rattle.nutrequest.specs.Session.{unread_of, reader_of, writer_of}
 use Rattle.nutrequest.specs.declared.request.Request.{Request}
 use Rattle.nutclient.specs.Requests.{RequestsGive}
 use Rattle.nutclient.specs.Shown.{shown}

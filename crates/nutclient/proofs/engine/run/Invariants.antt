@@ -1,5 +1,5 @@
 use Rattle.std.proofs.Common.{◌≡◌, drop, false}
-use Rattle.nutrequest.specs.State.{unread_of, reader_of, writer_of}
+use Rattle.nutrequest.specs.Session.{unread_of, reader_of, writer_of}
 use Rattle.nutclient.proofs.Underway.{IsUnderWay}
 use Rattle.nutclient.proofs.engine.run.Given as goal
 

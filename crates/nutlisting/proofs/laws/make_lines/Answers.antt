@@ -1,7 +1,7 @@
 use Rattle.std.proofs.Common.{refl}
 use Rattle.std.specs.Option.{option_copied}
 use Rattle.std.specs.List.{concat}
-use Rattle.nutlisting.specs.Content.{listing_of}
+use Rattle.nutlisting.specs.Items.{listing_of}
 use Rattle.nutlisting.specs.Items.{text_of, lines_of}
 use Rattle.nutlisting.specs.Stages.{lines_past}
 use Rattle.nutlisting.proofs.Writing.{lines_are_text, none_made, line_made, all_made}

@@ -2,7 +2,7 @@ use Rattle.std.proofs.Common.{length}
 use Rattle.std.specs.Option.{option_copied}
 use Rattle.std.specs.List.{concat}
 use Rattle.nutlisting.specs.Ahead.{IsAhead}
-use Rattle.nutlisting.specs.Content.{listing_of}
+use Rattle.nutlisting.specs.Items.{listing_of}
 use Rattle.nutlisting.specs.Items.{text_of}
 use Rattle.nutlisting.specs.Stages.{lines_past}
 use Rattle.nutlisting.proofs.Writing.{AreMade}

@@ -3,7 +3,7 @@ use Rattle.std.proofs.Common.{refl, take, length, arith, length-take}
 use Rattle.std.specs.Prelude.{◌≤◌}
 use Rattle.nutcore.specs.declared.event.Event.TheVariants.{DriverBytes, DriverDown}
 use Rattle.nutcore.specs.declared.event.Peer.TheVariants.{Driver}
-use Rattle.nutcore.specs.Server.{ups_at}
+use Rattle.nutcore.specs.Parts.{ups_at}
 use Rattle.nutloop.specs.declared.sockets.Ready.TheVariants.{Read}
 use Rattle.nutloop.specs.declared.turns.TheConstants.{DRIVER_READ_LIMIT}
 use Rattle.nutloop.specs.declared.sockets.Call.TheVariants.{Gave, Waits, Ended}

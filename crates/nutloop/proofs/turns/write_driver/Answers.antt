@@ -1,7 +1,7 @@
 use Rattle.std.proofs.Common.{◌∙◌, sym, [], ◌∷◌, refl}
 use Rattle.nutcore.specs.declared.event.Event.TheVariants.{DriverTook, DriverDown}
 use Rattle.nutcore.specs.declared.event.Peer.TheVariants.{Driver}
-use Rattle.nutcore.specs.Server.{ups_at}
+use Rattle.nutcore.specs.Parts.{ups_at}
 use Rattle.nutcore.specs.DriverOrders.{owed_to_driver}
 use Rattle.nutloop.specs.declared.sockets.Ready.TheVariants.{Write}
 use Rattle.nutloop.specs.Turn.{writes, took, failed}

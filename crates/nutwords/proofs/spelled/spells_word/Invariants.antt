@@ -1,5 +1,5 @@
 use Rattle.std.proofs.Common.{◌≡◌, false, drop}
-use Rattle.nutwords.specs.Keyword.{is_word}
+use Rattle.nutwords.specs.Spelling.{is_word}
 use Rattle.nutwords.specs.Split.{unescaped}
 use Rattle.nutwords.proofs.spelled.spells_word.Given as goal
 

@@ -4,7 +4,7 @@ use Rattle.std.specs.Result.{result_err}
 use Rattle.std.proofs.lemmas.Result.{err_from_is_err_and}
 use Rattle.nutlisting.specs.Types.{type_words}
 use Rattle.nutanswer.specs.Answer.{in_one_line, shares_version, text_of_answer, change_of_answer}
-use Rattle.nutanswer.specs.Promises.{known_variable, live_variable}
+use Rattle.nutanswer.specs.Promises.{variable_of_known, live_variable}
 use Rattle.nutanswer.proofs.Rows.{refused_line, with_variable, without_variable}
 use Rattle.nutanswer.proofs.view.View.get_type.Goals as goal
 
@@ -12,7 +12,7 @@ pub returns : goal.returns
 returns g c =
     let s = c.args.self.now in
     let found = c.in_ok-ups.ensures ∙ ap (live_variable s c.args.ups.now) c.read-name.ensures in
-    let k = known_variable (c.in_ok-ups.ups, c.in_ok-ups.name, c.in_ok-ups.variable) in
+    let k = variable_of_known (c.in_ok-ups.ups, c.in_ok-ups.name, c.in_ok-ups.variable) in
     let row = with_variable s c.args.ups.now c.args.name.now
     (λ u v x. in_one_line (codes "TYPE" ∷ u.name ∷ v ∷ type_words x)) k found in
     record {

@@ -3,8 +3,9 @@ use Rattle.std.specs.Prelude.{MatchResult}
 use Rattle.nuttracking.specs.declared.tracking.IdFault.{IdFault}
 use Rattle.nuttracking.specs.Acts.Act.{handed_in as id_handed_in}
 use Rattle.nuttracking.specs.Tracking.{TrackingState, id_fault}
-use Rattle.nutcore.specs.Server.{ServerState, with_tracking}
-use Rattle.nutcore.specs.Step.{id_outcome}
+use Rattle.nutcore.specs.Server.{ServerState}
+use Rattle.nutcore.specs.Parts.{with_tracking}
+use Rattle.nutcore.specs.DriverEvents.{id_outcome}
 use Rattle.nutcore.specs.contracts.server.Server.{the_view}
 use Rattle.nutcore.specs.declared.event.Event.TheVariants.{Id}
 use Rattle.nutcore.proofs.EventSteps.{id_handed}

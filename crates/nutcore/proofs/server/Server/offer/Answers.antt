@@ -8,7 +8,7 @@ use Rattle.nutcore.specs.Cost.{RunningServer}
 use Rattle.nutcore.specs.contracts.server.Server.{the_view}
 use Rattle.nutcore.proofs.Places.{found_at}
 use Rattle.nutcore.proofs.Runs.{state_is}
-use Rattle.nutlisting.specs.declared.byte_queue.TheConstants.{QUEUE_LIMIT}
+use Rattle.nutlisting.specs.declared.outbox.TheConstants.{QUEUE_LIMIT}
 use Rattle.nutcore.proofs.server.Server.offer.Goals as goal
 
 pub returns : goal.returns

@@ -1,6 +1,6 @@
 use Rattle.std.proofs.Common.{◌≡◌, ◌∙◌, List, ap, subst, rules}
 use Rattle.nutcore.proofs.Common.{SessionState, ServerState}
-use Rattle.nutcore.specs.Session.{IdsRise}
+use Rattle.nutcore.specs.Sound.{IdsRise}
 use Rattle.nutcore.proofs.Runs.{state_is}
 use Rattle.nutcore.proofs.Places.{searched, place_found}
 use Rattle.std.proofs.lemmas.List.Sorted.{answers_always}

@@ -2,7 +2,7 @@ use Rattle.std.proofs.Common.{◌≡◌, ◌+◌, ◌<◌, ◌∙◌, ◌++◌, 
 use Rattle.std.proofs.Common.{ap, subst, length, take, arith, vec_len}
 use Rattle.std.proofs.lemmas.List.{take_more, take_all}
 use Rattle.nutcore.proofs.Common.{Event, ServerState}
-use Rattle.nutcore.specs.Session.{IdsRise}
+use Rattle.nutcore.specs.Sound.{IdsRise}
 use Rattle.nutcore.proofs.Runs.{run_push, cost_push, lawful, state_is}
 use Rattle.nutcore.proofs.Stepping.{run_sent, run_taken_up}
 use Rattle.nutcore.proofs.server.Server.run.Goals as goal

@@ -1,5 +1,5 @@
 use Rattle.std.proofs.Common.{◌++◌, ◌∷◌, [], arith, length-append, take_all}
-use Rattle.nutlisting.specs.declared.listing.clients.TheConstants.{SESSION_LIMIT}
+use Rattle.nutusers.specs.declared.limits.TheConstants.{SESSION_LIMIT}
 use Rattle.nutcore.proofs.session.Session.list.Goals as goal
 
 pub returns-then-logins-eq1 : goal.returns-then-logins-eq1

@@ -1,5 +1,5 @@
 use Rattle.std.proofs.Common.{◌≡◌, ◌≤◌, ◌∙◌, List, ℕ, ap, sym, arith, length, take}
-use Rattle.nutlisting.specs.declared.byte_queue.TheConstants.{QUEUE_LIMIT}
+use Rattle.nutlisting.specs.declared.outbox.TheConstants.{QUEUE_LIMIT}
 use Rattle.nutlisting.specs.Owed.{owed}
 use Rattle.nutcore.specs.Session.{SessionState}
 use Rattle.nutlisting.proofs.PublicLaws.{what_is_placed_is_counted}

@@ -3,7 +3,7 @@ use Rattle.std.proofs.Common.{length, take, drop, min, arith, ℕ, length-append
 use Rattle.std.proofs.Common.{length-take}
 use Rattle.std.proofs.lemmas.List.{take_rest}
 use Rattle.std.specs.Option.{option_copied}
-use Rattle.nutlisting.specs.declared.byte_queue.TheConstants.{QUEUE_LIMIT}
+use Rattle.nutlisting.specs.declared.outbox.TheConstants.{QUEUE_LIMIT}
 use Rattle.nutlisting.proofs.Filling.{joins_alike}
 use Rattle.nutlisting.proofs.Positions.{in_line, position_next, position_within, placed_whole}
 use Rattle.nutlisting.proofs.Positions.{placed_piece, falls_whole}

@@ -1,10 +1,10 @@
 use Rattle.std.proofs.Common.{length, ◌<◌}
 use Rattle.std.specs.Option.{option_copied}
 use Rattle.nutlisting.specs.Ahead.{IsAhead}
-use Rattle.nutlisting.specs.Filled.{PlacesAlike}
+use Rattle.nutlisting.specs.Counts.{PlacesAlike}
 use Rattle.nutlisting.specs.Stages.{IsPosition, rest_at}
-use Rattle.nutlisting.specs.Rest.{rest}
-use Rattle.nutlisting.specs.declared.byte_queue.TheConstants.{QUEUE_LIMIT}
+use Rattle.nutlisting.specs.Items.{rest}
+use Rattle.nutlisting.specs.declared.outbox.TheConstants.{QUEUE_LIMIT}
 use Rattle.nutlisting.proofs.cursor.Cursor.fill.Given as goal
 
 -- what fits comes out the same

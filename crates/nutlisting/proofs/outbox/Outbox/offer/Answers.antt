@@ -1,6 +1,6 @@
 use Rattle.std.proofs.Common.{◌∙◌, refl, sym, ap, take}
 use Rattle.nutlisting.specs.Owed.{Owes, owed}
-use Rattle.nutlisting.specs.declared.byte_queue.TheConstants.{QUEUE_LIMIT}
+use Rattle.nutlisting.specs.declared.outbox.TheConstants.{QUEUE_LIMIT}
 use Rattle.nutlisting.proofs.Owing.{offered_is}
 use Rattle.nutlisting.proofs.outbox.Outbox.offer.Goals as goal
 

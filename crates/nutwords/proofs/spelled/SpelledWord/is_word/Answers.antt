@@ -1,5 +1,5 @@
 use Rattle.std.proofs.Common.{◌≡◌, sym, ◌∙◌, rules}
-use Rattle.nutwords.specs.Keyword.{is_word}
+use Rattle.nutwords.specs.Spelling.{is_word}
 use Rattle.nutwords.specs.Spelled.{spelled}
 use Rattle.nutwords.proofs.Splitting.{unescaped-same}
 use Rattle.nutwords.proofs.spelled.SpelledWord.is_word.Goals as goal

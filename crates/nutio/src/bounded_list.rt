@@ -1,6 +1,6 @@
 //! Lists of a greatest length.
 ghost use Rattle.std.specs.Prelude.{◌≡◌, ◌≤◌, [], length, IfOk};
-ghost use Rattle.nutlisting.specs.Bounded.{with_one};
+ghost use Rattle.nutio.specs.Bounded.{with_one};
 
 use std::alloc::{AllocError, Global};
 use std::marker::Model;
