@@ -1,5 +1,5 @@
 -- The lines of a second, by what they are of.
-use Rattle.std.specs.Prelude.{◌≡◌, ℕ, ◌++◌, Bool, false, true, map, List, [], ◌∷◌}
+use Rattle.std.specs.Prelude.{◌≡◌, ℕ, ◌+◌, ◌++◌, take, drop, Bool, false, true, map, List, [], ◌∷◌}
 use Rattle.std.specs.Prelude.{if◌then◌else◌, ◌==◌, ◌&&◌, nat_lt, length, slice_get, slice_set, unwrap_or, fold, Option, Some}
 use Rattle.std.specs.List.{position_or_len}
 use Rattle.std.specs.Option.{option_map_or}
@@ -45,13 +45,17 @@ after_line_of (Client address) kind all =
           (after_line (tally_of (Client address) all) kind);
     }
 
+abbrev pub first_mapped : (Tally → Tally) → ℕ → List Tally → List Tally
+first_mapped f n all = map f (take n all) ++ drop n all
+
 -- Once a second begins, all addresses have room again. What was counted of them is reported, and
--- of a driver that was lost too often once a minute begins.
-abbrev pub after_second_of : Bool → Tallies → Tallies
-after_second_of is_minute all = record {
-  upses = map (λ y. after_second y is_minute) all.upses;
+-- of a driver that was lost too often once a minute begins. So many UPSs have lines, and so many
+-- addresses had some, with the tally of all others: the tallies behind these stay as they are.
+abbrev pub after_second_of : ℕ → Bool → Tallies → Tallies
+after_second_of count is_minute all = record {
+  upses = first_mapped (λ y. after_second y is_minute) count all.upses;
   addresses = record { items = [] };
-  clients = map (λ y. after_second y true) all.clients;
+  clients = first_mapped (λ y. after_second y true) (length all.addresses.items + 1) all.clients;
 }
 
 -- These tallies come of those by some lines alone, each of which is logged or counted.

@@ -99,8 +99,9 @@ impl Journal {
         ensures goes_on { self.old.moment ≡ Some server.now.state.moment
             → LeadsTo self.old.tallies self.new.tallies }
         ensures begins { self.old.moment ≢ Some server.now.state.moment
-            → LeadsTo (after_second_of (begins_minute self.old.moment server.now.state.moment)
-            self.old.tallies) self.new.tallies }
+            → LeadsTo (after_second_of (length server.now.state.list)
+            (begins_minute self.old.moment server.now.state.moment) self.old.tallies)
+            self.new.tallies }
     {
         let moment = Some(server.current_moment());
         let was = mem::replace(&mut self.moment, moment);
@@ -108,7 +109,7 @@ impl Journal {
             let is_minute = begins_minute(was, server.current_moment());
             self.log_drivers(server, is_minute, error_of);
             self.log_counts(server.current_moment() / MINUTE, counts, is_record_cut);
-            self.tallies.next_second(is_minute);
+            self.tallies.next_second(server.ups().len(), is_minute);
         } else if server.notes().is_empty() {
             return self.has_more || self.is_behind(counts, is_record_cut);
         }

@@ -52,12 +52,15 @@ impl Tallies {
         }
     }
 
-    /// A second begins, perhaps the first one of a minute.
-    pub fn next_second(&mut self, is_minute: bool)
-        ensures { self.new ≡ after_second_of is_minute self.old }
+    /// A second begins, perhaps the first one of a minute, of so many UPSs, and of the addresses
+    /// that had lines. The other tallies have counted nothing.
+    pub fn next_second(&mut self, count: usize, is_minute: bool)
+        requires { count ≤ 256 }
+        ensures { self.new ≡ after_second_of count is_minute self.old }
     {
-        begin_second(&mut self.upses, is_minute);
-        begin_second(&mut self.clients, true);
+        begin_second(&mut self.upses[..count], is_minute);
+        let used = self.addresses.len() + 1;
+        begin_second(&mut self.clients[..used], true);
         self.addresses.clear();
     }
 

@@ -76,30 +76,30 @@ static SERVE_WORDS: [Word; 10] = words! {
     "users": LongOption("F"), Required, "The users and their rights, upsd.users(5)";
     "vars": LongOption("F"), Free, VARS;
     "ids": LongOption("F"), Free,
-        "Source of the ids of tracked orders, such as /dev/urandom [without it: no ids]";
-    "listen": Preset("A:P", DEFAULT_ADDRESS), Free, "The IP address and port for clients";
+        "Source of order ids: /dev/urandom [without it: none]";
+    "listen": Preset("A:P", DEFAULT_ADDRESS), Free, "IP address and port";
     "maxage": Parsed("N", ValueParser::Unsigned(MAX_AGE_LEAST as u64, MAX_AGE_MOST as u64)), Free,
-        "Seconds without a line from its driver until a UPS is stale [without it: 15]";
+        "Stale after N seconds of silence [without it: 15]";
     "record": LongOption("F"), Free,
-        "Writes each event into the new file F, passwords too, for replay";
+        "Record the events in the new file F, passwords too";
     "record-limit": Parsed("N", ValueParser::Unsigned(1, RECORD_MIB_MOST)), Free,
-        "The most MiB of that file [without it: 64]";
+        "The most MiB of the record [without it: 64]";
     "priorities": LongFlag, Free,
-        "Begin each line of the journal with its priority, as systemd reads it";
+        "Begin lines of the journal with their priority";
     "nut-bytes": LongFlag, Free,
-        "Leave out the CR of clients, and bytes above 126 of drivers, as NUT's server does";
+        "Read as NUT does: no CR, no driver's byte above 126";
 };
 
 /// The words of `replay`.
 static REPLAY_WORDS: [Word; 4] = words! {
     "ups": LongOption("F"), Free, "The list of UPSs, upsd.ups(5) [without it: only su]";
-    "users": LongOption("F"), Free, "The users and their rights, upsd.users(5) [without it: none]";
+    "users": LongOption("F"), Free, "Users and rights, upsd.users(5) [without it: none]";
     "vars": LongOption("F"), Free, VARS;
     "SCRIPT": Operand("SCRIPT"), Required, "The script of events";
 };
 
 /// What the help says of the file of the descriptions.
-const VARS: &str = "Descriptions of variables and commands, upsd.vars(5) [without it: none]";
+const VARS: &str = "Descriptions, upsd.vars(5) [without it: none]";
 
 /// `replay` and its words.
 fn replay_command<'a>(alloc: Global) -> Result<Command<'a>, AllocError>
