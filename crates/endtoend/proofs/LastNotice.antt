@@ -7,8 +7,7 @@ use Rattle.std.specs.Option.{option_map_or}
 use Rattle.std.proofs.lemmas.Bool.{eq-eqb, eqb-true}
 use Rattle.std.proofs.lemmas.List.Elements.{filter-append}
 use Rattle.nutcore.specs.declared.event.Event.{Event}
-use Rattle.nutcore.specs.declared.event.Event.TheVariants.{DriverUp, DriverBytes, DriverTook, DriverDown}
-use Rattle.nutcore.specs.declared.event.Event.TheVariants.{Tick, Open, Feed, Took, Close, Id}
+use Rattle.nutcore.specs.declared.event.Event.TheVariants as event
 use Rattle.nutcore.specs.declared.event.Outcome.{Outcome}
 use Rattle.nutcore.specs.Endings.{WhoIsOverIsAskedNoMore}
 use Rattle.nutcore.specs.Headline.{IsLawful}
@@ -161,9 +160,9 @@ module _ (sound : EachEventKeepsTheServerSound) (lawful : ASoundServerIsLawful) 
       → NoticeIsLast (of_client c (executions (after_by s e m) es os))
       → NoticeIsLast (of_client c (executions_by s e m ++ executions (after_by s e m) es os))
   unfolding executions_by after_by
-  behind_event s new (Feed d piece) m es os is_lawful run later =
+  behind_event s new (event.Feed d piece) m es os is_lawful run later =
       behind_pump (with_input s d piece) new d m es os is_lawful run later
-  behind_event s new (Took d n) m es os is_lawful run later = by (may_take (session d s) n) is_lawful run later
+  behind_event s new (event.Took d n) m es os is_lawful run later = by (may_take (session d s) n) is_lawful run later
     where
       begun : ServerState
       begun = without_output s d n
@@ -175,14 +174,14 @@ module _ (sound : EachEventKeepsTheServerSound) (lawful : ASoundServerIsLawful) 
           ++ executions (cond b (pumped_until begun d m) s) es os))
       by true is_lawful run later = behind_pump begun new d m es os is_lawful run later
       by false is_lawful run later = later
-  behind_event s new (DriverUp u) m es os is_lawful run later = later
-  behind_event s new (DriverBytes u piece) m es os is_lawful run later = later
-  behind_event s new (DriverTook u n) m es os is_lawful run later = later
-  behind_event s new (DriverDown u) m es os is_lawful run later = later
-  behind_event s new (Tick seconds) m es os is_lawful run later = later
-  behind_event s new (Open address) m es os is_lawful run later = later
-  behind_event s new (Close d) m es os is_lawful run later = later
-  behind_event s new (Id id) m es os is_lawful run later = later
+  behind_event s new (event.DriverUp u) m es os is_lawful run later = later
+  behind_event s new (event.DriverBytes u piece) m es os is_lawful run later = later
+  behind_event s new (event.DriverTook u n) m es os is_lawful run later = later
+  behind_event s new (event.DriverDown u) m es os is_lawful run later = later
+  behind_event s new (event.Tick seconds) m es os is_lawful run later = later
+  behind_event s new (event.Open address) m es os is_lawful run later = later
+  behind_event s new (event.Close d) m es os is_lawful run later = later
+  behind_event s new (event.Id id) m es os is_lawful run later = later
 
   pub notice_last : (s new : ServerState) (es : List Event) (os : List Outcome) → IsSound s → Run s es os new
       → NoticeIsLast (of_client c (executions s es os))

@@ -15,8 +15,7 @@ use Rattle.nutdriver.specs.Report.{after_heard, after_line, end_in}
 use Rattle.nutdriver.specs.declared.report.Report.{Report}
 use Rattle.nutdriver.specs.declared.report.LineOutcome.{LineOutcome}
 use Rattle.nutcore.specs.declared.event.Event.{Event}
-use Rattle.nutcore.specs.declared.event.Event.TheVariants.{DriverUp, DriverBytes, DriverTook, DriverDown}
-use Rattle.nutcore.specs.declared.event.Event.TheVariants.{Tick, Open, Feed, Took, Close, Id}
+use Rattle.nutcore.specs.declared.event.Event.TheVariants as event
 use Rattle.nutcore.specs.declared.event.Outcome.{Outcome}
 use Rattle.nutcore.specs.declared.TheConstants.{DRIVER_OWED_LIMIT}
 use Rattle.nutcore.specs.declared.max_age.TheConstants.{MAX_AGE_LEAST}
@@ -166,32 +165,34 @@ opening_keeps u s address None = by (may_open s)
 opening_keeps u s address (Some k) = unchanged u s
 
 not_tick : Event → Type 0
-not_tick e = (seconds : ℕ) → e ≡ Tick seconds → ⊥
+not_tick e = (seconds : ℕ) → e ≡ event.Tick seconds → ⊥
 
 module _ (clients : AClientTouchesNoOther) (u : UpsId) where
   event_keeps : (s : ServerState) (e : Event) (o : Outcome) (new : ServerState) → Step s e o new →
       has_driver u s ≡ true → not_tick e → KeepsTime u s new
   unfolding after_by after_driver_bytes not_tick
-  event_keeps s (DriverUp v) o new step there none = subst (KeepsTime u s) (sym step.leaves)
+  event_keeps s (event.DriverUp v) o new step there none = subst (KeepsTime u s) (sym step.leaves)
       (of_driver u v (connected s.moment) s (connection_makes_none s.moment) there)
-  event_keeps s (DriverBytes v piece) o new step there none = subst (KeepsTime u s) (sym step.leaves) (record {
+  event_keeps s (event.DriverBytes v piece) o new step there none = subst (KeepsTime u s) (sym step.leaves) (record {
     moment = refl;
     max_age = refl;
     pinged = none_made _ (bytes_make_none s.moment v.place s.tracking piece (refused_after o)) v.place u.place
         s.upses there;
   })
-  event_keeps s (DriverTook v n) o new step there none = subst (KeepsTime u s) (sym step.leaves)
+  event_keeps s (event.DriverTook v n) o new step there none = subst (KeepsTime u s) (sym step.leaves)
       (of_driver u v (after_driver_took n) s (taking_makes_none n) there)
-  event_keeps s (DriverDown v) o new step there none = subst (KeepsTime u s) (sym step.leaves)
+  event_keeps s (event.DriverDown v) o new step there none = subst (KeepsTime u s) (sym step.leaves)
       (of_driver u v disconnected s loss_makes_none there)
-  event_keeps s (Tick seconds) o new step there none = absurd (none seconds refl)
-  event_keeps s (Open address) o new step there none = subst (KeepsTime u s) (sym step.leaves)
+  event_keeps s (event.Tick seconds) o new step there none = absurd (none seconds refl)
+  event_keeps s (event.Open address) o new step there none = subst (KeepsTime u s) (sym step.leaves)
       (opening_keeps u s address (refused_after o))
-  event_keeps s (Feed c piece) o new step there none =
-      of_client u s new (clients s new (Feed c piece) o c step refl).server
-  event_keeps s (Took c n) o new step there none = of_client u s new (clients s new (Took c n) o c step refl).server
-  event_keeps s (Close c) o new step there none = of_client u s new (clients s new (Close c) o c step refl).server
-  event_keeps s (Id id) o new step there none = subst (KeepsTime u s) (sym step.leaves)
+  event_keeps s (event.Feed c piece) o new step there none =
+      of_client u s new (clients s new (event.Feed c piece) o c step refl).server
+  event_keeps s (event.Took c n) o new step there none =
+      of_client u s new (clients s new (event.Took c n) o c step refl).server
+  event_keeps s (event.Close c) o new step there none =
+      of_client u s new (clients s new (event.Close c) o c step refl).server
+  event_keeps s (event.Id id) o new step there none = subst (KeepsTime u s) (sym step.leaves)
       (record { moment = refl; max_age = refl; pinged = omega arith })
 
 -- a tick before that third is over
@@ -246,7 +247,7 @@ module _ (clients : AClientTouchesNoOther) (reported : WhatADriverReportedIsExec
       Step s e o mid → has_driver u s ≡ true → mid.moment < last + max_age / 3
       → (pinged_of u mid ≤ last) × (mid.max_age ≡ max_age)
   unfolding after_by ticked not_tick
-  no_ping_yet s (Tick seconds) o mid w step there few =
+  no_ping_yet s (event.Tick seconds) o mid w step there few =
       let same : max seconds s.moment ≡ mid.moment = sym (ap (λ (z : ServerState). z.moment) step.leaves) in (
         subst (λ z. pinged_of u z ≤ last) (sym step.leaves)
             (tick_keeps u last max_age seconds s w (rw same few)),
@@ -286,7 +287,7 @@ module _ (clients : AClientTouchesNoOther) (reported : WhatADriverReportedIsExec
   -- at the tick
   asks : (s : ServerState) (seconds : ℕ) (o : Outcome) → IsWaiting u last max_age s →
       last + max_age / 3 ≤ max seconds s.moment
-      → (given_in_event u s (Tick seconds) o ≡ ping ∷ [])
+      → (given_in_event u s (event.Tick seconds) o ≡ ping ∷ [])
       ⊎ (DRIVER_OWED_LIMIT < length (owed_to_driver u s) + length ping_line)
   unfolding executions_by
   asks s seconds o w over = by (leb (length w.now.owed + length ping_line) DRIVER_OWED_LIMIT) refl
@@ -301,7 +302,7 @@ module _ (clients : AClientTouchesNoOther) (reported : WhatADriverReportedIsExec
       unasked = let e = w.not_asked in let f = w.age_is in rw f (grind (arith, nat_tests))
 
       by : (b : Bool) → leb (length w.now.owed + length ping_line) DRIVER_OWED_LIMIT ≡ b
-          → (given_in_event u s (Tick seconds) o ≡ ping ∷ [])
+          → (given_in_event u s (event.Tick seconds) o ≡ ping ∷ [])
           ⊎ (DRIVER_OWED_LIMIT < length (owed_to_driver u s) + length ping_line)
       by true fits =
           let due : ping_is_due s.max_age (moment_of s seconds) w.now ≡ true =
@@ -350,7 +351,7 @@ module _ (clients : AClientTouchesNoOther) (reported : WhatADriverReportedIsExec
       IsWaiting u last max_age s → Step s e o mid → has_driver u s ≡ true → last + max_age / 3 ≤ mid.moment
       → WasAsked u last max_age s (e ∷ es) (o ∷ os)
   unfolding after_by ticked not_tick
-  at_tick s mid (Tick seconds) o es os w step there over =
+  at_tick s mid (event.Tick seconds) o es os w step there over =
       let moment : mid.moment ≡ max seconds s.moment = ap (λ (z : ServerState). z.moment) step.leaves in
       let is_over : last + max_age / 3 ≤ max seconds s.moment = subst (λ m. last + max_age / 3 ≤ m) moment over in
       let before : s.moment < last + max_age / 3 = w.before in

@@ -8,17 +8,7 @@ use Rattle.nutwords.specs.Frame.{line_of}
 use Rattle.nutwords.specs.Listing.{as_it_is, IsWrittenLine}
 use Rattle.nutcommand.specs.ErrWord.{error_line, spelling_of}
 use Rattle.nutcommand.specs.declared.err_word.ErrWord.{ErrWord}
-use Rattle.nutcommand.specs.declared.err_word.ErrWord.TheVariants.{AccessDenied, UnknownUps}
-use Rattle.nutcommand.specs.declared.err_word.ErrWord.TheVariants.{VarNotSupported, CmdNotSupported}
-use Rattle.nutcommand.specs.declared.err_word.ErrWord.TheVariants.{InvalidArgument, InstcmdFailed}
-use Rattle.nutcommand.specs.declared.err_word.ErrWord.TheVariants.{SetFailed, Readonly, TooLong}
-use Rattle.nutcommand.specs.declared.err_word.ErrWord.TheVariants.{FeatureNotConfigured}
-use Rattle.nutcommand.specs.declared.err_word.ErrWord.TheVariants.{DriverNotConnected, DataStale}
-use Rattle.nutcommand.specs.declared.err_word.ErrWord.TheVariants.{AlreadyLoggedIn}
-use Rattle.nutcommand.specs.declared.err_word.ErrWord.TheVariants.{AlreadySetPassword}
-use Rattle.nutcommand.specs.declared.err_word.ErrWord.TheVariants.{AlreadySetUsername}
-use Rattle.nutcommand.specs.declared.err_word.ErrWord.TheVariants.{UsernameRequired, PasswordRequired}
-use Rattle.nutcommand.specs.declared.err_word.ErrWord.TheVariants.{UnknownCommand, InvalidValue}
+use Rattle.nutcommand.specs.declared.err_word.ErrWord.TheVariants as errors
 use Rattle.nutrequest.specs.declared.request.Request.{Request}
 use Rattle.nutrequest.specs.declared.request.Request.TheVariants.{List as ListOf, GetVar}
 use Rattle.nutrequest.specs.declared.request.Request.TheVariants.{GetNumAttach, TrackedSetVar}
@@ -39,61 +29,79 @@ record IsErrorWord (word : List ℕ) : Type 0 where
       after_first request (refusal_of (codes "ERR" ∷ word ∷ [])) more ≡ Refused word
 
 spelled : (word : ErrWord) → IsErrorWord (spelling_of word)
-spelled AccessDenied = record { some = omega arith; bare = refl; short = omega arith; refusal = λ request more. refl }
-spelled UnknownUps = record { some = omega arith; bare = refl; short = omega arith; refusal = λ request more. refl }
-spelled VarNotSupported = record {
+spelled errors.AccessDenied = record
+    { some = omega arith; bare = refl; short = omega arith; refusal = λ request more. refl }
+spelled errors.UnknownUps = record
+    { some = omega arith; bare = refl; short = omega arith; refusal = λ request more. refl }
+spelled errors.VarNotSupported = record {
   some = omega arith;
   bare = refl;
   short = omega arith;
   refusal =
       λ request more. refl;
 }
-spelled CmdNotSupported = record {
+spelled errors.CmdNotSupported = record {
   some = omega arith;
   bare = refl;
   short = omega arith;
   refusal =
       λ request more. refl;
 }
-spelled InvalidArgument = record {
+spelled errors.InvalidArgument = record {
   some = omega arith;
   bare = refl;
   short = omega arith;
   refusal =
       λ request more. refl;
 }
-spelled InstcmdFailed = record { some = omega arith; bare = refl; short = omega arith; refusal = λ request more. refl }
-spelled SetFailed = record { some = omega arith; bare = refl; short = omega arith; refusal = λ request more. refl }
-spelled Readonly = record { some = omega arith; bare = refl; short = omega arith; refusal = λ request more. refl }
-spelled TooLong = record { some = omega arith; bare = refl; short = omega arith; refusal = λ request more. refl }
-spelled FeatureNotConfigured = record
+spelled errors.InstcmdFailed = record
     { some = omega arith; bare = refl; short = omega arith; refusal = λ request more. refl }
-spelled DriverNotConnected = record
+spelled errors.SetFailed = record
     { some = omega arith; bare = refl; short = omega arith; refusal = λ request more. refl }
-spelled DataStale = record { some = omega arith; bare = refl; short = omega arith; refusal = λ request more. refl }
-spelled AlreadyLoggedIn = record {
+spelled errors.Readonly = record {
   some = omega arith;
   bare = refl;
   short = omega arith;
   refusal =
       λ request more. refl;
 }
-spelled AlreadySetPassword = record
-    { some = omega arith; bare = refl; short = omega arith; refusal = λ request more. refl }
-spelled AlreadySetUsername = record
-    { some = omega arith; bare = refl; short = omega arith; refusal = λ request more. refl }
-spelled UsernameRequired = record
-    { some = omega arith; bare = refl; short = omega arith; refusal = λ request more. refl }
-spelled PasswordRequired = record
-    { some = omega arith; bare = refl; short = omega arith; refusal = λ request more. refl }
-spelled UnknownCommand = record {
+spelled errors.TooLong = record {
   some = omega arith;
   bare = refl;
   short = omega arith;
   refusal =
       λ request more. refl;
 }
-spelled InvalidValue = record { some = omega arith; bare = refl; short = omega arith; refusal = λ request more. refl }
+spelled errors.FeatureNotConfigured = record
+    { some = omega arith; bare = refl; short = omega arith; refusal = λ request more. refl }
+spelled errors.DriverNotConnected = record
+    { some = omega arith; bare = refl; short = omega arith; refusal = λ request more. refl }
+spelled errors.DataStale = record
+    { some = omega arith; bare = refl; short = omega arith; refusal = λ request more. refl }
+spelled errors.AlreadyLoggedIn = record {
+  some = omega arith;
+  bare = refl;
+  short = omega arith;
+  refusal =
+      λ request more. refl;
+}
+spelled errors.AlreadySetPassword = record
+    { some = omega arith; bare = refl; short = omega arith; refusal = λ request more. refl }
+spelled errors.AlreadySetUsername = record
+    { some = omega arith; bare = refl; short = omega arith; refusal = λ request more. refl }
+spelled errors.UsernameRequired = record
+    { some = omega arith; bare = refl; short = omega arith; refusal = λ request more. refl }
+spelled errors.PasswordRequired = record
+    { some = omega arith; bare = refl; short = omega arith; refusal = λ request more. refl }
+spelled errors.UnknownCommand = record {
+  some = omega arith;
+  bare = refl;
+  short = omega arith;
+  refusal =
+      λ request more. refl;
+}
+spelled errors.InvalidValue = record
+    { some = omega arith; bare = refl; short = omega arith; refusal = λ request more. refl }
 
 -- a line of words that a client reads first
 pub first_read : (request : Request) (texts words : List (List ℕ)) (more : List ℕ) →

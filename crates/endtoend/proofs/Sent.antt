@@ -23,10 +23,7 @@ use Rattle.nutclient.specs.Target.{lawful, both, has_byte, ups_place_of}
 use Rattle.nutclient.specs.declared.form.Form.{Form}
 use Rattle.nutclient.specs.declared.form.Form.TheVariants as forms
 use Rattle.nutclient.specs.declared.given.Sender.{Sender}
-use Rattle.nutclient.specs.declared.given.Given.TheVariants.{Variables, Variable, Upses}
-use Rattle.nutclient.specs.declared.given.Given.TheVariants.{Descriptions, Clients, Attached}
-use Rattle.nutclient.specs.declared.given.Given.TheVariants.{Tracked, Writable, Set, Commands}
-use Rattle.nutclient.specs.declared.given.Given.TheVariants.{Command}
+use Rattle.nutclient.specs.declared.given.Given.TheVariants as given
 use Rattle.nutclient.specs.declared.limits.TheConstants.{USER_LIMIT, PASSWORD_LIMIT}
 use Rattle.nutclient.specs.declared.target.Target.{Target}
 use Rattle.endtoend.specs.Served.{IsReadAsAsked, EachRequestIsReadAsAsked}
@@ -143,23 +140,23 @@ if_given (Some text) = by (lawful (read_value text.now)) (value_read text.now)
     by (Some v) h = h
 
 pub each_read : EachRequestIsReadAsAsked
-each_read (Variables ups) = of_place (λ u. requests.List (queries.Var u)) forms.Colon ups.now list_var_read
-each_read (Variable ups name) = of_both _ (λ place. is_ups_name place.0 ≡ true)
+each_read (given.Variables ups) = of_place (λ u. requests.List (queries.Var u)) forms.Colon ups.now list_var_read
+each_read (given.Variable ups name) = of_both _ (λ place. is_ups_name place.0 ≡ true)
     (λ n. is_name n ≡ true) AreRead _ _ (place_read ups.now) (name_read name.now)
     (λ p n h k. one (requests.GetVar p.0 n) (get_var_read p.0 n h k))
-each_read (Upses server) = of_server forms.Name (server_or_local server)
-each_read (Descriptions server) = of_server forms.Colon (server_or_local server)
-each_read (Clients ups) = of_place (λ u. requests.List (queries.Client u)) forms.Name ups.now list_client_read
-each_read (Attached ups) = of_place (λ u. requests.GetNumAttach u) forms.Value ups.now num_attach_read
-each_read (Tracked ups id) = of_both _ (λ place. is_ups_name place.0 ≡ true) (λ i. i < 2 ^ 128)
+each_read (given.Upses server) = of_server forms.Name (server_or_local server)
+each_read (given.Descriptions server) = of_server forms.Colon (server_or_local server)
+each_read (given.Clients ups) = of_place (λ u. requests.List (queries.Client u)) forms.Name ups.now list_client_read
+each_read (given.Attached ups) = of_place (λ u. requests.GetNumAttach u) forms.Value ups.now num_attach_read
+each_read (given.Tracked ups id) = of_both _ (λ place. is_ups_name place.0 ≡ true) (λ i. i < 2 ^ 128)
     AreRead _ _ (place_read ups.now) (id_read id.now) (λ p i h k. one (requests.GetTracking i) (get_tracking_read i k))
-each_read (Writable ups) = of_place (λ u. requests.List (queries.Rw u)) forms.Equals ups.now list_rw_read
-each_read (Set ups setting by) =
+each_read (given.Writable ups) = of_place (λ u. requests.List (queries.Rw u)) forms.Equals ups.now list_rw_read
+each_read (given.Set ups setting by) =
     of_order by _
     (of_both _ (λ place. is_ups_name place.0 ≡ true) IsSetting (λ o. IsReadAsAsked o.1) _ _
     (place_read ups.now) (setting_read setting.now) (λ p set h k. set_asked by.track p.0 set.0 set.1 h k.0 k.1))
-each_read (Commands ups) = of_place (λ u. requests.List (queries.Cmd u)) forms.Name ups.now list_cmd_read
-each_read (Command ups name value by) =
+each_read (given.Commands ups) = of_place (λ u. requests.List (queries.Cmd u)) forms.Name ups.now list_cmd_read
+each_read (given.Command ups name value by) =
     of_order by _
     (of_both _ (λ (named : UpsPlace × List ℕ). (is_ups_name named.0.0 ≡ true) ×
     (is_name named.1 ≡ true)) (λ v. IfSome v (λ text. IsTrue (is_value text))) (λ o. IsReadAsAsked o.1) _ _

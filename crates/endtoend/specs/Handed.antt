@@ -27,9 +27,7 @@ use Rattle.nutrequest.specs.declared.request.Request.TheVariants.{GetNumAttach, 
 use Rattle.nutrequest.specs.declared.session.Session.{Session}
 use Rattle.nutclient.specs.Job.{UpsPlace, job_of, parts_of}
 use Rattle.nutclient.specs.Target.{ups_place_of}
-use Rattle.nutclient.specs.declared.given.Given.TheVariants.{Variables, Variable, Upses}
-use Rattle.nutclient.specs.declared.given.Given.TheVariants.{Descriptions, Attached, Writable}
-use Rattle.nutclient.specs.declared.given.Given.TheVariants.{Commands, Tracked}
+use Rattle.nutclient.specs.declared.given.Given.TheVariants as given
 use Rattle.nutclient.specs.declared.job.Job.{Job}
 use Rattle.endtoend.specs.Served.{IsLineOf, IsUsable, HasVariable}
 use Rattle.endtoend.specs.Printed.{variable_lines, setting_lines, command_lines, name_lines}
@@ -79,7 +77,7 @@ module _ {R W O : Type 0} (remaining : R → Option (List ℕ)) (failures : R �
   PrintsTheVariables job r =
       (s : ServerState) (client : ℕ) (words : Bor (List ℕ)) (place : UpsPlace) (line : List ℕ)
       (known : KnownUps) (more : List ℕ)
-      → job_of (Variables words) ≡ Some (parts_of job) → ups_place_of words.now ≡ Some place
+      → job_of (given.Variables words) ≡ Some (parts_of job) → ups_place_of words.now ≡ Some place
       → IsUsable s place.0 known → IsLineOf (ListOf (queries.Var place.0)) line
       → IsHanded (reply s client line ++ more) r → IsPrinted (variable_lines known) r
 
@@ -88,7 +86,8 @@ module _ {R W O : Type 0} (remaining : R → Option (List ℕ)) (failures : R �
   PrintsTheVariable job r =
       (s : ServerState) (client : ℕ) (words name : Bor (List ℕ)) (place : UpsPlace) (line : List ℕ)
       (known : KnownUps) (variable : VariableState) (more : List ℕ)
-      → job_of (Variable words name) ≡ Some (parts_of job) → ups_place_of words.now ≡ Some place
+      → job_of (given.Variable words name) ≡ Some (parts_of job) → ups_place_of words.now ≡
+      Some place
       → IsUsable s place.0 known → HasVariable known name.now variable
       → IsLineOf (GetVar place.0 name.now) line
       → IsHanded (reply s client line ++ more) r
@@ -100,7 +99,7 @@ module _ {R W O : Type 0} (remaining : R → Option (List ℕ)) (failures : R �
   PrintsTheNumber job r =
       (s : ServerState) (client : ℕ) (words : Bor (List ℕ)) (place : UpsPlace) (line : List ℕ)
       (known : KnownUps) (more : List ℕ)
-      → job_of (Attached words) ≡ Some (parts_of job) → ups_place_of words.now ≡ Some place
+      → job_of (given.Attached words) ≡ Some (parts_of job) → ups_place_of words.now ≡ Some place
       → length s.sessions ≤ SESSION_LIMIT → ups_named (seen s) (Some place.0) ≡ Some known
       → IsLineOf (GetNumAttach place.0) line
       → IsHanded (reply s client line ++ more) r → IsPrinted (number_line s known) r
@@ -111,7 +110,7 @@ module _ {R W O : Type 0} (remaining : R → Option (List ℕ)) (failures : R �
   PrintsTheProgress job r =
       (s : ServerState) (client : ℕ) (words word : Bor (List ℕ)) (id : ℕ) (line : List ℕ)
       (progress : Progress) (more : List ℕ)
-      → job_of (Tracked words word) ≡ Some (parts_of job) → read_id word.now ≡ Some id
+      → job_of (given.Tracked words word) ≡ Some (parts_of job) → read_id word.now ≡ Some id
       → HaveLawfulNumbers s.tracking.orders
       → progress_of id s.tracking ≡ Some progress → IsLineOf (GetTracking id) line
       → IsHanded (reply s client line ++ more) r
@@ -123,7 +122,7 @@ module _ {R W O : Type 0} (remaining : R → Option (List ℕ)) (failures : R �
   PrintsTheSettings job r =
       (s : ServerState) (client : ℕ) (words : Bor (List ℕ)) (place : UpsPlace) (line : List ℕ)
       (known : KnownUps) (more : List ℕ)
-      → job_of (Writable words) ≡ Some (parts_of job) → ups_place_of words.now ≡ Some place
+      → job_of (given.Writable words) ≡ Some (parts_of job) → ups_place_of words.now ≡ Some place
       → IsUsable s place.0 known → IsLineOf (ListOf (queries.Rw place.0)) line
       → IsHanded (reply s client line ++ more) r → IsPrinted (setting_lines known) r
 
@@ -132,7 +131,7 @@ module _ {R W O : Type 0} (remaining : R → Option (List ℕ)) (failures : R �
   PrintsTheCommands job r =
       (s : ServerState) (client : ℕ) (words : Bor (List ℕ)) (place : UpsPlace) (line : List ℕ)
       (known : KnownUps) (more : List ℕ)
-      → job_of (Commands words) ≡ Some (parts_of job) → ups_place_of words.now ≡ Some place
+      → job_of (given.Commands words) ≡ Some (parts_of job) → ups_place_of words.now ≡ Some place
       → IsUsable s place.0 known → IsLineOf (ListOf (queries.Cmd place.0)) line
       → IsHanded (reply s client line ++ more) r → IsPrinted (command_lines known) r
 
@@ -141,13 +140,13 @@ module _ {R W O : Type 0} (remaining : R → Option (List ℕ)) (failures : R �
   abbrev pub PrintsTheNames : Job → ProgramRun R W O → Type 0
   PrintsTheNames job r =
       (s : ServerState) (client : ℕ) (server : Option (Bor (List ℕ))) (line more : List ℕ)
-      → job_of (Upses server) ≡ Some (parts_of job)
+      → job_of (given.Upses server) ≡ Some (parts_of job)
       → IsList s.list → IsLineOf (ListOf queries.Ups) line
       → IsHanded (reply s client line ++ more) r → IsPrinted (name_lines s.list) r
 
   abbrev pub PrintsTheDescriptions : Job → ProgramRun R W O → Type 0
   PrintsTheDescriptions job r =
       (s : ServerState) (client : ℕ) (server : Option (Bor (List ℕ))) (line more : List ℕ)
-      → job_of (Descriptions server) ≡ Some (parts_of job)
+      → job_of (given.Descriptions server) ≡ Some (parts_of job)
       → IsList s.list → IsLineOf (ListOf queries.Ups) line
       → IsHanded (reply s client line ++ more) r → IsPrinted (description_lines s.list) r

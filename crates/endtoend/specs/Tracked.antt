@@ -24,8 +24,7 @@ use Rattle.nutcore.specs.Server.{ServerState}
 use Rattle.nutcore.specs.Sound.{IsSound}
 use Rattle.nutcore.specs.TrackedRuns.{acts}
 use Rattle.nutrequest.specs.declared.faults.ClientFault.TheVariants.{ErrWord as ServerRefused}
-use Rattle.nutrequest.specs.declared.request.Request.TheVariants.{TrackedSetVar, TrackedInstcmd}
-use Rattle.nutrequest.specs.declared.request.Request.TheVariants.{GetTracking}
+use Rattle.nutrequest.specs.declared.request.Request.TheVariants as requests
 use Rattle.nutclient.specs.Printed.{Prints, Faults, printed}
 use Rattle.nutclient.specs.declared.form.Form.TheVariants as forms
 use Rattle.endtoend.specs.Served.{IsLineOf, IsReadAsAsked}
@@ -49,15 +48,16 @@ pub record IsOrderedWithId (s : ServerState) (c : ℕ) (line ups : List ℕ) (by
 -- `upscmd --track`: where a text is printed, the order was given with an id.
 pub record ATrackedOrderThatIsPrintedIsGiven : Type 0 where
   pub set : (s : ServerState) (c : ℕ) (line ups name value more text : List ℕ)
-      → IsReadAsAsked (TrackedSetVar ups name value) → IsLineOf (TrackedSetVar ups name value) line
-      → printed (TrackedSetVar ups name value ∷ []) forms.Value (reply s c line ++ more)
+      → IsReadAsAsked (requests.TrackedSetVar ups name value) →
+      IsLineOf (requests.TrackedSetVar ups name value) line
+      → printed (requests.TrackedSetVar ups name value ∷ []) forms.Value (reply s c line ++ more)
       ≡ Prints text
       → IsOrderedWithId s c line ups (λ id. set_line name value (Some id)) text
   pub command : (s : ServerState) (c : ℕ) (line ups name : List ℕ) (value : Option (List ℕ))
       (more text : List ℕ)
-      → IsReadAsAsked (TrackedInstcmd ups name value)
-      → IsLineOf (TrackedInstcmd ups name value) line
-      → printed (TrackedInstcmd ups name value ∷ []) forms.Value (reply s c line ++ more)
+      → IsReadAsAsked (requests.TrackedInstcmd ups name value)
+      → IsLineOf (requests.TrackedInstcmd ups name value) line
+      → printed (requests.TrackedInstcmd ups name value ∷ []) forms.Value (reply s c line ++ more)
       ≡ Prints text
       → IsOrderedWithId s c line ups (λ id. instcmd_line name value (Some id)) text
 
@@ -68,13 +68,13 @@ pub record ATrackedOrderThatIsPrintedIsGiven : Type 0 where
 pub record UpscPrintsHowFarAnOrderHasCome : Type 0 where
   pub known : (s : ServerState) (client id : ℕ) (text line : List ℕ) (progress : Progress)
       (more : List ℕ) → read_id text ≡ Some id → HaveLawfulNumbers s.tracking.orders
-      → progress_of id s.tracking ≡ Some progress → IsLineOf (GetTracking id) line
-      → printed (GetTracking id ∷ []) forms.Value (reply s client line ++ more)
+      → progress_of id s.tracking ≡ Some progress → IsLineOf (requests.GetTracking id) line
+      → printed (requests.GetTracking id ∷ []) forms.Value (reply s client line ++ more)
       ≡ Prints (line_of (progress_words progress))
   pub unknown : (s : ServerState) (client id : ℕ) (text line more : List ℕ)
       → read_id text ≡ Some id
-      → progress_of id s.tracking ≡ None → IsLineOf (GetTracking id) line
-      → printed (GetTracking id ∷ []) forms.Value (reply s client line ++ more)
+      → progress_of id s.tracking ≡ None → IsLineOf (requests.GetTracking id) line
+      → printed (requests.GetTracking id ∷ []) forms.Value (reply s client line ++ more)
       ≡ Faults (ServerRefused (spelling_of InvalidArgument))
 
 -- What is printed of an order that was given with an id. On every server to which a run leads from
@@ -87,7 +87,7 @@ UpscPrintsWhatItsDriverReported =
     → (o : IsOrderedWithId s c line ups bytes text) → IsSound left
     → left.tracking ≡ (after_change s c line).tracking → Run left events outcomes new
     → length (given left.tracking (acts left events outcomes)) < ORDER_LIMIT
-    → IsLineOf (GetTracking o.id) asks
-    → printed (GetTracking o.id ∷ []) forms.Value (reply new client asks ++ more)
+    → IsLineOf (requests.GetTracking o.id) asks
+    → printed (requests.GetTracking o.id ∷ []) forms.Value (reply new client asks ++ more)
     ≡ Prints (line_of (progress_words
     (first_report o.known.id.place o.id (acts left events outcomes))))

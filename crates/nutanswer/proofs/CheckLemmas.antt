@@ -9,9 +9,7 @@ use Rattle.nutdriver.specs.Tree.{variable_at}
 use Rattle.nutusers.specs.Users.{may}
 use Rattle.nutusers.specs.declared.rights.Right.{Right}
 use Rattle.nutcommand.specs.declared.err_word.ErrWord.{ErrWord}
-use Rattle.nutcommand.specs.declared.err_word.ErrWord.TheVariants.{AccessDenied, UnknownUps}
-use Rattle.nutcommand.specs.declared.err_word.ErrWord.TheVariants.{UsernameRequired, PasswordRequired}
-use Rattle.nutcommand.specs.declared.err_word.ErrWord.TheVariants.{VarNotSupported}
+use Rattle.nutcommand.specs.declared.err_word.ErrWord.TheVariants as errors
 use Rattle.nutanswer.specs.View.{Seen, AskerSeen, Readiness, usable, readiness}
 use Rattle.nutanswer.specs.Checks.{◌>>=◌, ◌>>◌, unless, KnownUps, ups_named, known_ups}
 use Rattle.nutanswer.specs.Checks.{ready, live, driver_not_connected, data_stale, user}
@@ -40,8 +38,8 @@ pub has_right : (s : Seen) (asker : AskerSeen) (right : Right) → user s asker 
 has_right s asker right e = by_given asker.username asker.password refl refl e
   where
     by_given : (name password : Option (List ℕ)) → asker.username ≡ name → asker.password ≡ password
-        → (ok_or name UsernameRequired >>=
-        (λ n. ok_or password PasswordRequired >>= (λ p. access_denied s n p right))) ≡ Ok tt →
+        → (ok_or name errors.UsernameRequired >>=
+        (λ n. ok_or password errors.PasswordRequired >>= (λ p. access_denied s n p right))) ≡ Ok tt →
         HasRight s asker right
     by_given (Some n) (Some p) f g h =
         record {
@@ -50,7 +48,7 @@ has_right s asker right e = by_given asker.username asker.password refl refl e
           username_given = f;
           password_given = g;
           granted =
-              unless_ok (may s.users n p right) AccessDenied h;
+              unless_ok (may s.users n p right) errors.AccessDenied h;
         }
     by_given name password f g h = cc h
 
@@ -88,7 +86,7 @@ module _ (P : Result Answer ErrWord → Type 0) (no : (word : ErrWord) → P (Er
     -- of a UPS that is there
     pub of_ups : (next : KnownUps → Result Answer ErrWord) →
         ((u : KnownUps) → ups_named s ups ≡ Some u → P (next u)) → P (known_ups s ups >>= next)
-    of_ups next h = found (known_ups s ups) next (λ u is. h u (ok_found (ups_named s ups) UnknownUps u is))
+    of_ups next h = found (known_ups s ups) next (λ u is. h u (ok_found (ups_named s ups) errors.UnknownUps u is))
 
     -- and is usable
     pub of_usable : (next : KnownUps → Result Answer ErrWord)
@@ -110,6 +108,6 @@ module _ (P : Result Answer ErrWord → Type 0) (no : (word : ErrWord) → P (Er
       where
         looked_up : (u : KnownUps) (o : Option VariableState) →
             ((x : VariableState) → o ≡ Some x → P (next u (name, x))) →
-            P (ok_or (option_map (λ (x : VariableState). (name, x)) o) VarNotSupported >>= next u)
-        looked_up u None h = no VarNotSupported
+            P (ok_or (option_map (λ (x : VariableState). (name, x)) o) errors.VarNotSupported >>= next u)
+        looked_up u None h = no errors.VarNotSupported
         looked_up u (Some x) h = h x refl

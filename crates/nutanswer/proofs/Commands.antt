@@ -11,16 +11,7 @@ use Rattle.nutdriver.specs.Tree.{variable_at, has_command}
 use Rattle.nutlisting.specs.Items.{is_rw, ups_item, variable_item, command_item, enum_item, range_item, client_item}
 use Rattle.nutusers.specs.declared.rights.Right.TheVariants as rights
 use Rattle.nutcommand.specs.declared.command.Command.{Command}
-use Rattle.nutcommand.specs.declared.command.Command.TheVariants.{Username, Password, Login, Logout}
-use Rattle.nutcommand.specs.declared.command.Command.TheVariants.{Primary, Fsd, SetVar, InstCmd}
-use Rattle.nutcommand.specs.declared.command.Command.TheVariants.{GetVar, GetType, GetDesc}
-use Rattle.nutcommand.specs.declared.command.Command.TheVariants.{GetCmdDesc, GetUpsDesc}
-use Rattle.nutcommand.specs.declared.command.Command.TheVariants.{GetNumLogins, GetNumAttach, ListUps}
-use Rattle.nutcommand.specs.declared.command.Command.TheVariants.{ListVar, ListRw, ListCmd, ListEnum}
-use Rattle.nutcommand.specs.declared.command.Command.TheVariants.{ListRange, ListClient, Help, Ver}
-use Rattle.nutcommand.specs.declared.command.Command.TheVariants.{NetVer, ProtVer, StartTls}
-use Rattle.nutcommand.specs.declared.command.Command.TheVariants.{SetTracking, GetTracking}
-use Rattle.nutcommand.specs.declared.command.Command.TheVariants.{GetProgress}
+use Rattle.nutcommand.specs.declared.command.Command.TheVariants as commands
 use Rattle.nutcommand.specs.declared.err_word.ErrWord.{ErrWord}
 use Rattle.nutcommand.specs.declared.err_word.ErrWord.TheVariants.{AlreadySetUsername}
 use Rattle.nutcommand.specs.declared.err_word.ErrWord.TheVariants.{AlreadySetPassword}
@@ -31,12 +22,7 @@ use Rattle.nutcommand.specs.declared.err_word.ErrWord.TheVariants.{InstcmdFailed
 use Rattle.nutanswer.specs.declared.reply.Change.{Change}
 use Rattle.nutanswer.specs.declared.reply.Change.TheVariants as changes
 use Rattle.nutcommand.specs.ErrWord.{error_line}
-use Rattle.nutanswer.specs.View.{Seen, AskerSeen, usable, readiness}
-use Rattle.nutanswer.specs.Checks.{◌>>=◌, ◌>>◌, KnownUps, ups_named, user, var_not_lawful}
-use Rattle.nutanswer.specs.Checks.{cmd_not_lawful, already_set_username, already_set_password}
-use Rattle.nutanswer.specs.Checks.{already_logged_in, readonly, command_value, invalid_value}
-use Rattle.nutanswer.specs.Checks.{order_id, set_failed, instcmd_failed, kept_progress, known_command}
-use Rattle.nutanswer.specs.Orders.{is_short_enough, is_listed, is_in_ranges, right_to, set_line}
+use Rattle.nutcommand.specs.declared.err_word.ErrWord.TheVariants as errors
 use Rattle.nutanswer.specs.Orders.{instcmd_line, order, ok_words, instcmd_right}
 use Rattle.nutanswer.specs.Answer.{Answer, one_line, ok, description_at, answer_to, change_of_answer, text_of_answer}
 use Rattle.nutanswer.specs.Rows.{HasRight, value_given, IsIdOfOrder, EachChangeComesOfItsCommand}
@@ -81,18 +67,18 @@ module _ (P : Result Answer ErrWord → Type 0) (no : (word : ErrWord) → P (Er
 
   set_row : (s : Seen) (asker : AskerSeen) (ups : Option (List ℕ)) (name value : List ℕ)
       → ((u : KnownUps) (x : VariableState) (id : Option ℕ) →
-      SetGoes s asker ups name value u x id) → P (answer_to s asker (SetVar ups (Some name) (Some value)))
+      SetGoes s asker ups name value u x id) → P (answer_to s asker (commands.SetVar ups (Some name) (Some value)))
   set_row s asker ups name value goes =
       checks.held P no (user s asker rights.Set) _
       (λ right. checks.of_variable P no s ups name _ (λ u x named going there.
       checks.held P no (readonly x) _
-      (λ writable. checks.tested P no (is_short_enough x value) TooLong value _
+      (λ writable. checks.tested P no (is_short_enough x value) errors.TooLong value _
       (λ short. checks.held P no (invalid_value x value) _ (λ may_be.
-      checks.with_id P no s asker SetFailed _
+      checks.with_id P no s asker errors.SetFailed _
       (λ id id_is. checks.held P no (set_failed u (set_line name value id)) _ (λ fits.
       goes u x id (has_right s asker rights.Set right) named going there
-      (unless_ok x.flags.rw Readonly writable) short (unless_ok _ InvalidValue may_be) id_is
-      (leb-true _ _ (unless_ok _ SetFailed fits)))))))))
+      (unless_ok x.flags.rw errors.Readonly writable) short (unless_ok _ errors.InvalidValue may_be) id_is
+      (leb-true _ _ (unless_ok _ errors.SetFailed fits)))))))))
 
   -- INSTCMD
   abbrev CommandGoes : Seen → AskerSeen → Option (List ℕ) → List ℕ →
@@ -106,10 +92,10 @@ module _ (P : Result Answer ErrWord → Type 0) (no : (word : ErrWord) → P (Er
 
   command_row : (s : Seen) (asker : AskerSeen) (ups : Option (List ℕ)) (name : List ℕ) (value : Option (List ℕ))
       → ((u : KnownUps) (id : Option ℕ) → CommandGoes s asker ups name value u id) →
-      P (answer_to s asker (InstCmd ups (Some name) (value_given value)))
+      P (answer_to s asker (commands.InstCmd ups (Some name) (value_given value)))
   command_row s asker ups name value goes =
       checks.held P no (user s asker (right_to name)) _ (λ right. checks.of_usable P no s ups _ (λ u named going.
-      checks.tested P no (has_command u.state.report.tree name) CmdNotSupported name _
+      checks.tested P no (has_command u.state.report.tree name) errors.CmdNotSupported name _
       (λ there. by_value value u (λ id id_is fits. goes u id
       (has_right s asker (right_to name) right) named going there id_is fits))))
     where
@@ -117,19 +103,20 @@ module _ (P : Result Answer ErrWord → Type 0) (no : (word : ErrWord) → P (Er
           ((id : Option ℕ) → IsIdOfOrder s asker id → length (instcmd_line name value id) ≤
           u.state.free → P (Ok (one_line (ok_words id) (order u.id (instcmd_line name value id) id))))
           → P (command_value (value_given value) >>=
-          (λ v. order_id s asker InstcmdFailed >>=
+          (λ v. order_id s asker errors.InstcmdFailed >>=
           (λ id. instcmd_failed u (instcmd_line name v id) >> Ok
           (one_line (ok_words id) (order u.id (instcmd_line name v id) id)))))
-      by_value None u h = checks.with_id P no s asker InstcmdFailed _
+      by_value None u h = checks.with_id P no s asker errors.InstcmdFailed _
           (λ id id_is. checks.held P no (instcmd_failed u (instcmd_line name None id)) _
-          (λ fits. h id id_is (leb-true _ _ (unless_ok _ InstcmdFailed fits))))
-      by_value (Some value) u h = checks.with_id P no s asker InstcmdFailed _
+          (λ fits. h id id_is (leb-true _ _ (unless_ok _ errors.InstcmdFailed fits))))
+      by_value (Some value) u h = checks.with_id P no s asker errors.InstcmdFailed _
           (λ id id_is. checks.held P no (instcmd_failed u (instcmd_line name (Some value) id)) _
-          (λ fits. h id id_is (leb-true _ _ (unless_ok _ InstcmdFailed fits))))
+          (λ fits. h id id_is (leb-true _ _ (unless_ok _ errors.InstcmdFailed fits))))
 
 commanded : (s : Seen) (asker : AskerSeen) (ups : Option (List ℕ)) (name : List ℕ)
     (value : Option (List ℕ)) (u : KnownUps) (id : Option ℕ)
-    → CommandGoes (IsRow s asker (InstCmd ups (Some name) (value_given value))) refused s asker ups name value u id
+    → CommandGoes (IsRow s asker (commands.InstCmd ups (Some name) (value_given value))) refused s
+    asker ups name value u id
 commanded s asker ups name value u id right named going there id_is fits =
     orders u.id (instcmd_line name value id) id (λ e. inr (record {
       name = name;
@@ -145,15 +132,15 @@ commanded s asker ups name value u id right named going there id_is fits =
 -- the row of each
 module _ (s : Seen) (asker : AskerSeen) where
   pub row : (command : Command) → IsRow s asker command (answer_to s asker command)
-  row (Username None) = held (already_set_username asker) (λ free. refused _)
-  row (Username (Some name)) = held (already_set_username asker)
+  row (commands.Username None) = held (already_set_username asker) (λ free. refused _)
+  row (commands.Username (Some name)) = held (already_set_username asker)
       (λ free. does ok (changes.Username name) refl ok_shaped
-      (λ e. record { is = refl; fresh = none_given asker.username AlreadySetUsername free; text = e }))
-  row (Password None) = held (already_set_password asker) (λ free. refused _)
-  row (Password (Some word)) = held (already_set_password asker)
+      (λ e. record { is = refl; fresh = none_given asker.username errors.AlreadySetUsername free; text = e }))
+  row (commands.Password None) = held (already_set_password asker) (λ free. refused _)
+  row (commands.Password (Some word)) = held (already_set_password asker)
       (λ free. does ok (changes.Password word) refl ok_shaped
-      (λ e. record { is = refl; fresh = none_given asker.password AlreadySetPassword free; text = e }))
-  row (Login ups) =
+      (λ e. record { is = refl; fresh = none_given asker.password errors.AlreadySetPassword free; text = e }))
+  row (commands.Login ups) =
       held (user s asker rights.Login)
       (λ right. of_ups ups (λ u named. held (already_logged_in asker)
       (λ free. does ok (changes.Login u.id) refl ok_shaped (λ e. record {
@@ -167,13 +154,13 @@ module _ (s : Seen) (asker : AskerSeen) where
               has_right s asker rights.Login right;
           text = e;
         };
-        fresh = none_given asker.login AlreadyLoggedIn free;
+        fresh = none_given asker.login errors.AlreadyLoggedIn free;
       }))))
-  row Logout = does (codes "OK" ∷ codes "Goodbye" ∷ []) changes.Ending refl
+  row commands.Logout = does (codes "OK" ∷ codes "Goodbye" ∷ []) changes.Ending refl
       (line_shaped (codes "OK" ∷ codes "Goodbye" ∷ []) (refl, (refl, tt)) refl) (λ e. refl)
-  row (Primary ups) = held (user s asker rights.Primary)
+  row (commands.Primary ups) = held (user s asker rights.Primary)
       (λ right. of_ups ups (λ u named. tells ok refl (λ seen h. (refl, tt))))
-  row (Fsd ups) =
+  row (commands.Fsd ups) =
       held (user s asker rights.Fsd) (λ right. of_ups ups
       (λ u named. does (codes "OK" ∷ codes "FSD-SET" ∷ []) (changes.Fsd u.id) refl
       (line_shaped (codes "OK" ∷ codes "FSD-SET" ∷ []) (refl, (refl, tt)) refl)
@@ -187,12 +174,12 @@ module _ (s : Seen) (asker : AskerSeen) where
             has_right s asker rights.Fsd right;
         text = e;
       })))
-  row (SetVar ups None word) = held (user s asker rights.Set) (λ right. of_usable ups (λ u named. refused _))
-  row (SetVar ups (Some name) None) =
+  row (commands.SetVar ups None word) = held (user s asker rights.Set) (λ right. of_usable ups (λ u named. refused _))
+  row (commands.SetVar ups (Some name) None) =
       held (user s asker rights.Set) (λ right. of_variable ups (Some name)
       (λ u v named is. held (readonly v.1) (λ writable. refused _)))
-  row (SetVar ups (Some name) (Some value)) =
-      set_row (IsRow s asker (SetVar ups (Some name) (Some value))) refused s asker ups name value
+  row (commands.SetVar ups (Some name) (Some value)) =
+      set_row (IsRow s asker (commands.SetVar ups (Some name) (Some value))) refused s asker ups name value
       (λ u x id right named going there writable short may_be id_is fits.
       let both = both_true _ _ may_be in
       orders u.id (set_line name value id) id (λ e. inl (record {
@@ -210,18 +197,19 @@ module _ (s : Seen) (asker : AskerSeen) where
         fits = fits;
         line_is = refl;
       })))
-  row (InstCmd ups None word) = held (user s asker (right_to [])) (λ right. of_usable ups (λ u named. refused _))
-  row (InstCmd ups (Some name) (Some None)) =
+  row (commands.InstCmd ups None word) =
+      held (user s asker (right_to [])) (λ right. of_usable ups (λ u named. refused _))
+  row (commands.InstCmd ups (Some name) (Some None)) =
       held (user s asker (right_to name))
       (λ right. of_usable ups (λ u named. found (known_command u (Some name)) (λ c is. refused _)))
-  row (InstCmd ups (Some name) None) =
-      command_row (IsRow s asker (InstCmd ups (Some name) None)) refused s asker ups name None
+  row (commands.InstCmd ups (Some name) None) =
+      command_row (IsRow s asker (commands.InstCmd ups (Some name) None)) refused s asker ups name None
       (commanded s asker ups name None)
-  row (InstCmd ups (Some name) (Some (Some value))) =
-      command_row (IsRow s asker (InstCmd ups (Some name) (Some (Some value)))) refused s asker ups
+  row (commands.InstCmd ups (Some name) (Some (Some value))) =
+      command_row (IsRow s asker (commands.InstCmd ups (Some name) (Some (Some value)))) refused s asker ups
       name (Some value) (commanded s asker ups name (Some value))
-  row (SetTracking on) = does ok (changes.Tracking on) refl ok_shaped (λ e. refl)
-  row (GetVar ups name) =
+  row (commands.SetTracking on) = does ok (changes.Tracking on) refl ok_shaped (λ e. refl)
+  row (commands.GetVar ups name) =
       of_variable ups name (λ u v named is. tells _ refl (λ seen h.
       let f = lawful_found s seen ups name u v h named is in (
         refl,
@@ -237,17 +225,17 @@ module _ (s : Seen) (asker : AskerSeen) where
           ),
         ),
       )))
-  row (GetType ups name) =
+  row (commands.GetType ups name) =
       of_variable ups name (λ u v named is. tells _ refl (λ seen h.
       let f = lawful_found s seen ups name u v h named is in
       (refl, (f.ups.name, (f.name, type_plain v.1 f.entry.1.aux)))))
-  row (GetDesc ups name) =
+  row (commands.GetDesc ups name) =
       of_ups ups (λ u named. found (var_not_lawful name) (λ v is. tells _ refl (λ seen h. (
         refl,
         (
           (lawful_known s seen ups u h.0 named).name,
           (
-            name_found name VarNotSupported v h.1 is,
+            name_found name errors.VarNotSupported v h.1 is,
             (
               quoted_plain VALUE_LIMIT (description_of (text_at s.descriptions.vars v))
                   (text_lawful s.descriptions.vars v seen.descriptions.vars),
@@ -256,13 +244,13 @@ module _ (s : Seen) (asker : AskerSeen) where
           ),
         ),
       ))))
-  row (GetCmdDesc ups name) =
+  row (commands.GetCmdDesc ups name) =
       of_ups ups (λ u named. found (cmd_not_lawful name) (λ c is. tells _ refl (λ seen h. (
         refl,
         (
           (lawful_known s seen ups u h.0 named).name,
           (
-            name_found name CmdNotSupported c h.1 is,
+            name_found name errors.CmdNotSupported c h.1 is,
             (
               quoted_plain VALUE_LIMIT (description_of (text_at s.descriptions.cmds c))
                   (text_lawful s.descriptions.cmds c seen.descriptions.cmds),
@@ -271,7 +259,7 @@ module _ (s : Seen) (asker : AskerSeen) where
           ),
         ),
       ))))
-  row (GetUpsDesc ups) =
+  row (commands.GetUpsDesc ups) =
       of_ups ups (λ u named. tells _ refl (λ seen h. (
         refl,
         (
@@ -279,56 +267,58 @@ module _ (s : Seen) (asker : AskerSeen) where
           (quoted_plain VALUE_LIMIT (text_or_unavailable (description_at s u.id)) (description_lawful s seen u.id), tt),
         ),
       )))
-  row (GetNumLogins ups) = of_ups ups (λ u named. tells _ refl (λ seen h. (refl, count_plain s seen ups u h named)))
-  row (GetNumAttach ups) = of_ups ups (λ u named. tells _ refl (λ seen h. (refl, count_plain s seen ups u h named)))
-  row GetTracking = tells _ refl (λ seen h. (refl, (on_or_off_plain asker.tracking, tt)))
-  row (GetProgress id) = found (kept_progress s id)
+  row (commands.GetNumLogins ups) =
+      of_ups ups (λ u named. tells _ refl (λ seen h. (refl, count_plain s seen ups u h named)))
+  row (commands.GetNumAttach ups) =
+      of_ups ups (λ u named. tells _ refl (λ seen h. (refl, count_plain s seen ups u h named)))
+  row commands.GetTracking = tells _ refl (λ seen h. (refl, (on_or_off_plain asker.tracking, tt)))
+  row (commands.GetProgress id) = found (kept_progress s id)
       (λ k is. tells _ refl (λ seen h.
       (refl, (ids_are_lawful.lawful k.0, progress_plain k.1 (progress_found s id k seen.numbers is)))))
-  row ListUps = lists _ (λ seen h. listing_shaped (codes "UPS") [] _ (refl, tt)
+  row commands.ListUps = lists _ (λ seen h. listing_shaped (codes "UPS") [] _ (refl, tt)
       (items_of IsLawfulUps ups_item ups_inside s.list seen.list))
-  row (ListVar ups) =
+  row (commands.ListVar ups) =
       of_usable ups (λ u named. lists _ (λ seen h.
       let k = lawful_known s seen ups u h named in
       listing_shaped (codes "VAR") (u.name ∷ []) _ (refl, (k.name, tt))
       (items_of IsSoundEntry (variable_item (codes "VAR") u.name u.state.fsd)
       (entry_item (codes "VAR") u.name u.state.fsd refl k.name (λ name text. refl)) _ (variables_of s seen u k))))
-  row (ListRw ups) =
+  row (commands.ListRw ups) =
       of_usable ups (λ u named. lists _ (λ seen h.
       let k = lawful_known s seen ups u h named in
       listing_shaped (codes "RW") (u.name ∷ []) _ (refl, (k.name, tt))
       (items_of IsSoundEntry (variable_item (codes "RW") u.name u.state.fsd)
       (entry_item (codes "RW") u.name u.state.fsd refl k.name (λ name text. refl)) _
       (All-filter is_rw IsSoundEntry _ (variables_of s seen u k)))))
-  row (ListCmd ups) =
+  row (commands.ListCmd ups) =
       of_usable ups (λ u named. lists _ (λ seen h.
       let k = lawful_known s seen ups u h named in
       listing_shaped (codes "CMD") (u.name ∷ []) _ (refl, (k.name, tt))
       (items_of (λ name. IsTrue (is_name name)) (command_item u.name)
       (command_inside u.name k.name) _ k.tree.commands)))
-  row (ListEnum ups name) =
+  row (commands.ListEnum ups name) =
       of_variable ups name (λ u v named is. lists _ (λ seen h.
       let f = lawful_found s seen ups name u v h named is in
       listing_shaped (codes "ENUM") (u.name ∷ v.0 ∷ []) _ (refl, (f.ups.name, (f.name, tt)))
       (items_of (λ value. IsTrue (is_value value)) (enum_item u.name v.0)
       (enum_inside u.name v.0 f.ups.name f.name) v.1.enum_values f.entry.1.enum_values)))
-  row (ListRange ups name) =
+  row (commands.ListRange ups name) =
       of_variable ups name (λ u v named is. lists _ (λ seen h.
       let f = lawful_found s seen ups name u v h named is in
       listing_shaped (codes "RANGE") (u.name ∷ v.0 ∷ []) _ (refl, (f.ups.name, (f.name, tt)))
       (items_of IsSoundRange (range_item u.name v.0) (range_inside u.name v.0 f.ups.name f.name)
       v.1.ranges f.entry.1.ranges)))
-  row (ListClient ups) =
+  row (commands.ListClient ups) =
       of_ups ups (λ u named. lists_clients _ (λ seen h.
       let k = lawful_known s seen ups u h named in
       listing_shaped (codes "CLIENT") (u.name ∷ []) _ (refl, (k.name, tt))
       (items_of (λ address. IsTrue (is_address address)) (client_item u.name)
       (client_inside u.name k.name) _ (lawful_clients s seen u))))
-  row Help = tells _ refl (λ seen h. (refl, tt))
-  row Ver = tells _ refl (λ seen h. (refl, tt))
-  row NetVer = tells _ refl (λ seen h. (refl, tt))
-  row ProtVer = tells _ refl (λ seen h. (refl, tt))
-  row StartTls = refused _
+  row commands.Help = tells _ refl (λ seen h. (refl, tt))
+  row commands.Ver = tells _ refl (λ seen h. (refl, tt))
+  row commands.NetVer = tells _ refl (λ seen h. (refl, tt))
+  row commands.ProtVer = tells _ refl (λ seen h. (refl, tt))
+  row commands.StartTls = refused _
 
 pub each_change : EachChangeComesOfItsCommand
 each_change s asker command = (row s asker command).comes refl
@@ -398,17 +388,23 @@ ok_orders = record {
 
 -- the data of a UPS that are answered are fresh
 pub answered_fresh : WhatIsAnsweredIsFresh
-answered_fresh s asker (SetVar ups name value) other answer h e =
+answered_fresh s asker (commands.SetVar ups name value) other answer h e =
     fresh.moved s ups other _ h (checks.held (fresh.AnswersFresh s ups) (fresh.no_answer s ups)
     (user s asker rights.Set) _ (λ right. fresh.row s ups _)) answer e
-answered_fresh s asker (InstCmd ups name value) other answer h e =
+answered_fresh s asker (commands.InstCmd ups name value) other answer h e =
     fresh.moved s ups other _ h (checks.held (fresh.AnswersFresh s ups) (fresh.no_answer s ups)
     (user s asker (instcmd_right name)) _ (λ right. fresh.row s ups _)) answer e
-answered_fresh s asker (GetVar ups name) other answer h e = fresh.moved s ups other _ h (fresh.row s ups _) answer e
-answered_fresh s asker (GetType ups name) other answer h e = fresh.moved s ups other _ h (fresh.row s ups _) answer e
-answered_fresh s asker (ListVar ups) other answer h e = fresh.moved s ups other _ h (fresh.row s ups _) answer e
-answered_fresh s asker (ListRw ups) other answer h e = fresh.moved s ups other _ h (fresh.row s ups _) answer e
-answered_fresh s asker (ListCmd ups) other answer h e = fresh.moved s ups other _ h (fresh.row s ups _) answer e
-answered_fresh s asker (ListEnum ups name) other answer h e = fresh.moved s ups other _ h (fresh.row s ups _) answer e
-answered_fresh s asker (ListRange ups name) other answer h e = fresh.moved s ups other _ h (fresh.row s ups _) answer e
+answered_fresh s asker (commands.GetVar ups name) other answer h e =
+    fresh.moved s ups other _ h (fresh.row s ups _) answer e
+answered_fresh s asker (commands.GetType ups name) other answer h e =
+    fresh.moved s ups other _ h (fresh.row s ups _) answer e
+answered_fresh s asker (commands.ListVar ups) other answer h e =
+    fresh.moved s ups other _ h (fresh.row s ups _) answer e
+answered_fresh s asker (commands.ListRw ups) other answer h e = fresh.moved s ups other _ h (fresh.row s ups _) answer e
+answered_fresh s asker (commands.ListCmd ups) other answer h e =
+    fresh.moved s ups other _ h (fresh.row s ups _) answer e
+answered_fresh s asker (commands.ListEnum ups name) other answer h e =
+    fresh.moved s ups other _ h (fresh.row s ups _) answer e
+answered_fresh s asker (commands.ListRange ups name) other answer h e =
+    fresh.moved s ups other _ h (fresh.row s ups _) answer e
 answered_fresh s asker command other answer h e = cc h

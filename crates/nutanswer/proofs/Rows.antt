@@ -135,7 +135,8 @@ module _ (s : Seen) (asker : AskerSeen) (ups name : Option (List ℕ)) where
       → answer_to s asker (SetVar ups name word) ≡ (settable k.2 word >>= (λ value. set_end s asker k.0 k.1 value))
   set_row word k h e =
       let next : KnownUps → List ℕ → VariableState → Result Answer ErrWord =
-      λ u v x. readonly x >> (settable_value x word >>= (λ value. invalid_value x value >> set_end s asker u v value)) in
+      λ u v x. readonly x >> (settable_value x word >>=
+      (λ value. invalid_value x value >> set_end s asker u v value)) in
       cc (h, with_variable s ups name next k e, row_of_value k.2 word (λ value. set_end s asker k.0 k.1 value))
 
   -- a variable that isn't there
@@ -144,7 +145,8 @@ module _ (s : Seen) (asker : AskerSeen) (ups name : Option (List ℕ)) where
       → (r : Result Reply ErrWord) → r ≡ Err why → Gives (answer_to s asker (SetVar ups name word)) r
   set_without word h why e r is =
       let next : KnownUps → List ℕ → VariableState → Result Answer ErrWord =
-      λ u v x. readonly x >> (settable_value x word >>= (λ value. invalid_value x value >> set_end s asker u v value)) in
+      λ u v x. readonly x >> (settable_value x word >>=
+      (λ value. invalid_value x value >> set_end s asker u v value)) in
       refused_by (answer_to s asker (SetVar ups name word)) why r (cc (h, without_variable s ups name next why e)) is
 
   -- INSTCMD, by the user's right and the checks of a command

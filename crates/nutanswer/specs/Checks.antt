@@ -12,16 +12,7 @@ use Rattle.nutusers.specs.Users.{may}
 use Rattle.nutusers.specs.declared.rights.Right.{Right}
 use Rattle.nutusers.specs.declared.ups_list.UpsId.{UpsId}
 use Rattle.nutcommand.specs.declared.err_word.ErrWord.{ErrWord}
-use Rattle.nutcommand.specs.declared.err_word.ErrWord.TheVariants.{AccessDenied, UnknownUps}
-use Rattle.nutcommand.specs.declared.err_word.ErrWord.TheVariants.{DriverNotConnected, DataStale}
-use Rattle.nutcommand.specs.declared.err_word.ErrWord.TheVariants.{VarNotSupported, CmdNotSupported}
-use Rattle.nutcommand.specs.declared.err_word.ErrWord.TheVariants.{InvalidArgument, AlreadyLoggedIn}
-use Rattle.nutcommand.specs.declared.err_word.ErrWord.TheVariants.{AlreadySetPassword}
-use Rattle.nutcommand.specs.declared.err_word.ErrWord.TheVariants.{AlreadySetUsername}
-use Rattle.nutcommand.specs.declared.err_word.ErrWord.TheVariants.{UsernameRequired}
-use Rattle.nutcommand.specs.declared.err_word.ErrWord.TheVariants.{PasswordRequired, Readonly}
-use Rattle.nutcommand.specs.declared.err_word.ErrWord.TheVariants.{TooLong, InvalidValue, SetFailed}
-use Rattle.nutcommand.specs.declared.err_word.ErrWord.TheVariants.{InstcmdFailed}
+use Rattle.nutcommand.specs.declared.err_word.ErrWord.TheVariants as errors
 use Rattle.nutanswer.specs.View.{Seen, AskerSeen, UpsSeen, Readiness, not_connected, stale, usable}
 use Rattle.nutanswer.specs.View.{readiness}
 use Rattle.nutanswer.specs.Orders.{is_short_enough, is_listed, is_in_ranges}
@@ -62,16 +53,16 @@ ups_named s None = None
 ups_named s (Some name) = option_and_then (ups_at s name) (place_of name s.list)
 
 abbrev pub known_ups : Seen → Option (List ℕ) → Result KnownUps ErrWord
-known_ups s name = ok_or (ups_named s name) UnknownUps
+known_ups s name = ok_or (ups_named s name) errors.UnknownUps
 
 abbrev pub driver_not_connected : Readiness → Result (Unit {0}) ErrWord
-driver_not_connected not_connected = Err DriverNotConnected
+driver_not_connected not_connected = Err errors.DriverNotConnected
 driver_not_connected stale = Ok tt
 driver_not_connected usable = Ok tt
 
 abbrev pub data_stale : Readiness → Result (Unit {0}) ErrWord
 data_stale not_connected = Ok tt
-data_stale stale = Err DataStale
+data_stale stale = Err errors.DataStale
 data_stale usable = Ok tt
 
 -- Whether clients see what its driver has reported.
@@ -90,25 +81,25 @@ variable_named tree None = None
 variable_named tree (Some name) = option_map (λ v. (name, v)) (variable_at tree name)
 
 abbrev pub known_variable : KnownUps → Option (List ℕ) → Result (List ℕ × VariableState) ErrWord
-known_variable u name = ok_or (variable_named u.state.report.tree name) VarNotSupported
+known_variable u name = ok_or (variable_named u.state.report.tree name) errors.VarNotSupported
 
 -- The word is no lawful name, as of GET DESC, which doesn't look for it in what the driver has
 -- reported.
 abbrev pub var_not_lawful : Option (List ℕ) → Result (List ℕ) ErrWord
-var_not_lawful name = ok_or name VarNotSupported
+var_not_lawful name = ok_or name errors.VarNotSupported
 
 -- The same, of GET CMDDESC.
 abbrev pub cmd_not_lawful : Option (List ℕ) → Result (List ℕ) ErrWord
-cmd_not_lawful name = ok_or name CmdNotSupported
+cmd_not_lawful name = ok_or name errors.CmdNotSupported
 
 abbrev pub username_required : AskerSeen → Result (List ℕ) ErrWord
-username_required asker = ok_or asker.username UsernameRequired
+username_required asker = ok_or asker.username errors.UsernameRequired
 
 abbrev pub password_required : AskerSeen → Result (List ℕ) ErrWord
-password_required asker = ok_or asker.password PasswordRequired
+password_required asker = ok_or asker.password errors.PasswordRequired
 
 abbrev pub access_denied : Seen → List ℕ → List ℕ → Right → Result (Unit {0}) ErrWord
-access_denied s name password right = unless (may s.users name password right) AccessDenied
+access_denied s name password right = unless (may s.users name password right) errors.AccessDenied
 
 -- The session has given the name and the password of a user to whom the right is granted.
 abbrev pub user : Seen → AskerSeen → Right → Result (Unit {0}) ErrWord
@@ -118,46 +109,46 @@ user s asker right = do
   access_denied s name password right
 
 abbrev pub already_set_username : AskerSeen → Result (Unit {0}) ErrWord
-already_set_username asker = unless (is_none asker.username) AlreadySetUsername
+already_set_username asker = unless (is_none asker.username) errors.AlreadySetUsername
 
 abbrev pub already_set_password : AskerSeen → Result (Unit {0}) ErrWord
-already_set_password asker = unless (is_none asker.password) AlreadySetPassword
+already_set_password asker = unless (is_none asker.password) errors.AlreadySetPassword
 
 abbrev pub already_logged_in : AskerSeen → Result (Unit {0}) ErrWord
-already_logged_in asker = unless (is_none asker.login) AlreadyLoggedIn
+already_logged_in asker = unless (is_none asker.login) errors.AlreadyLoggedIn
 
 -- The word isn't as long as a user name or a password may be.
 abbrev pub invalid_argument : Option (List ℕ) → Result (List ℕ) ErrWord
-invalid_argument word = ok_or word InvalidArgument
+invalid_argument word = ok_or word errors.InvalidArgument
 
 -- The name of a command that the driver has reported.
 abbrev pub known_command : KnownUps → Option (List ℕ) → Result (List ℕ) ErrWord
 known_command u name = do
   c ← cmd_not_lawful name
-  unless (has_command u.state.report.tree c) CmdNotSupported
+  unless (has_command u.state.report.tree c) errors.CmdNotSupported
   Ok c
 
 -- Clients may set the variable.
 abbrev pub readonly : VariableState → Result (Unit {0}) ErrWord
-readonly x = unless x.flags.rw Readonly
+readonly x = unless x.flags.rw errors.Readonly
 
 -- A value as long as the variable may have. The word is none where it has more than 512 bytes.
 abbrev pub settable_value : VariableState → Option (List ℕ) → Result (List ℕ) ErrWord
 settable_value x word = do
-  value ← ok_or word TooLong
-  unless (is_short_enough x value) TooLong
+  value ← ok_or word errors.TooLong
+  unless (is_short_enough x value) errors.TooLong
   Ok value
 
 -- The value of a command, which may be left out. The word is none where it has more than 512 bytes.
 abbrev pub command_value : Option (Option (List ℕ)) → Result (Option (List ℕ)) ErrWord
 command_value None = Ok None
-command_value (Some None) = Err TooLong
+command_value (Some None) = Err errors.TooLong
 command_value (Some (Some value)) = Ok (Some value)
 
 -- The variable may have this value.
 abbrev pub invalid_value : VariableState → List ℕ → Result (Unit {0}) ErrWord
 invalid_value x value =
-    unless (is_listed x.enum_values value && is_in_ranges x.ranges value) InvalidValue
+    unless (is_listed x.enum_values value && is_in_ranges x.ranges value) errors.InvalidValue
 
 -- The available id that an order uses, or the word where there is none.
 abbrev pub first_id : Option ℕ → ErrWord → Result (Option ℕ) ErrWord
@@ -170,11 +161,11 @@ order_id s asker word = if asker.tracking then first_id (next_id s.tracking) wor
 
 -- The line fits in what the driver may still be owed.
 abbrev pub set_failed : KnownUps → List ℕ → Result (Unit {0}) ErrWord
-set_failed u line = unless (nat_le (length line) u.state.free) SetFailed
+set_failed u line = unless (nat_le (length line) u.state.free) errors.SetFailed
 
 -- The same, of INSTCMD.
 abbrev pub instcmd_failed : KnownUps → List ℕ → Result (Unit {0}) ErrWord
-instcmd_failed u line = unless (nat_le (length line) u.state.free) InstcmdFailed
+instcmd_failed u line = unless (nat_le (length line) u.state.free) errors.InstcmdFailed
 
 -- The id of an order that is kept, with how far the order has come. The word is none where it is no
 -- id.
@@ -183,4 +174,4 @@ progress_at s None = None
 progress_at s (Some id) = option_map (λ progress. (id, progress)) (progress_of id s.tracking)
 
 abbrev pub kept_progress : Seen → Option ℕ → Result (ℕ × Progress) ErrWord
-kept_progress s id = ok_or (progress_at s id) InvalidArgument
+kept_progress s id = ok_or (progress_at s id) errors.InvalidArgument

@@ -12,8 +12,7 @@ use Rattle.nutusers.specs.declared.ups_list.UpsId.{UpsId}
 use Rattle.nutcommand.specs.declared.command.Command.{Command}
 use Rattle.nutcommand.specs.declared.command.Command.TheVariants as commands
 use Rattle.nutanswer.specs.declared.reply.Change.{Change}
-use Rattle.nutanswer.specs.declared.reply.Change.TheVariants.{Nothing, Username, Password, Login}
-use Rattle.nutanswer.specs.declared.reply.Change.TheVariants.{Ending, Fsd, Order, Tracking, Tracked}
+use Rattle.nutanswer.specs.declared.reply.Change.TheVariants as changes
 use Rattle.nutanswer.specs.View.{Seen, AskerSeen, readiness, usable}
 use Rattle.nutanswer.specs.Checks.{KnownUps, ups_named}
 use Rattle.nutanswer.specs.Orders.{is_short_enough, is_listed, is_in_ranges, right_to, set_line}
@@ -108,18 +107,18 @@ pub record IsInstCmd
 
 -- What a change comes of.
 abbrev pub ComesOf : Seen → AskerSeen → Command → Change → Type 0
-ComesOf s asker command Nothing = Unit {0}
-ComesOf s asker command (Username name) =
+ComesOf s asker command changes.Nothing = Unit {0}
+ComesOf s asker command (changes.Username name) =
     IsGiving s asker command (commands.Username (Some name)) asker.username
-ComesOf s asker command (Password password) =
+ComesOf s asker command (changes.Password password) =
     IsGiving s asker command (commands.Password (Some password)) asker.password
-ComesOf s asker command (Login u) = IsLogin s asker command u
-ComesOf s asker command Ending = command ≡ commands.Logout
-ComesOf s asker command (Fsd u) = IsShutdown s asker command u
-ComesOf s asker command (Order u line) =
+ComesOf s asker command (changes.Login u) = IsLogin s asker command u
+ComesOf s asker command changes.Ending = command ≡ commands.Logout
+ComesOf s asker command (changes.Fsd u) = IsShutdown s asker command u
+ComesOf s asker command (changes.Order u line) =
     IsSet s asker command u None line.items ⊎ IsInstCmd s asker command u None line.items
-ComesOf s asker command (Tracking on) = command ≡ commands.SetTracking on
-ComesOf s asker command (Tracked u id line) =
+ComesOf s asker command (changes.Tracking on) = command ≡ commands.SetTracking on
+ComesOf s asker command (changes.Tracked u id line) =
     IsSet s asker command u (Some id) line.items ⊎ IsInstCmd s asker command u (Some id) line.items
 
 -- Each change comes of its own command, where the checks of its row held.

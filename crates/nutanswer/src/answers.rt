@@ -14,11 +14,11 @@ mod orders;
 mod session;
 
 use crate::{Asker, Change, Peers, Reply, View};
+use nutcommand::{Checked, Command, ErrWord, NameWord, UpsWord};
 use nutlisting::{
     Listing, count_line_into, described, type_line_into, ups_line_into, value_line_into,
     variable_line_into,
 };
-use nutcommand::{Checked, Command, ErrWord, NameWord, UpsWord};
 use nutwords::Line;
 use std::alloc::AllocError;
 

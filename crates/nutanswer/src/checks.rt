@@ -7,8 +7,8 @@ ghost use Rattle.nutanswer.specs.Orders.{instcmd_right, is_short_enough, is_list
 ghost use Rattle.nutanswer.specs.Promises.{ups_of_known, variable_of_known, command_of_known, found, live_ups, live_variable, live_command, settable};
 
 use crate::{Asker, Peers, UpsView, View};
-use nutdriver::{EnumValue, Range, Variable, read_number};
 use nutcommand::{Checked, ErrWord, UpsWord, ValueWord};
+use nutdriver::{EnumValue, Range, Variable, read_number};
 use nutusers::{Right, UpsId};
 use nutwords::{Name, UpsName, Value};
 

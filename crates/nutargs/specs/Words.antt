@@ -13,8 +13,7 @@ use Rattle.clap.specs.declared.parser.matches.ArgMatches.{ArgMatches}
 use Rattle.nutargs.specs.declared.words.Bond.{Bond as BondOfWord}
 use Rattle.nutargs.specs.declared.words.Bond.TheVariants as bonds
 use Rattle.nutargs.specs.declared.words.Form.{Form}
-use Rattle.nutargs.specs.declared.words.Form.TheVariants.{LongFlag, LongOption, Operand}
-use Rattle.nutargs.specs.declared.words.Form.TheVariants.{Parsed, Preset, ShortFlag, ShortOption}
+use Rattle.nutargs.specs.declared.words.Form.TheVariants as forms
 use Rattle.nutargs.specs.declared.words.Word.{Word}
 
 -- The argument is read by this rule, and is no argument of all commands.
@@ -43,14 +42,14 @@ operand name = record (new_rule name) { value_names = 1 }
 
 -- The rule of a word of this name that is written so.
 abbrev pub rule_by_form : Text → Form → Rule
-rule_by_form name (ShortFlag letter) = short_flag name letter
-rule_by_form name LongFlag = long_flag name
-rule_by_form name (ShortOption letter shown) = short_option name letter
-rule_by_form name (LongOption shown) = long_option name
-rule_by_form name (Preset shown value) =
+rule_by_form name (forms.ShortFlag letter) = short_flag name letter
+rule_by_form name forms.LongFlag = long_flag name
+rule_by_form name (forms.ShortOption letter shown) = short_option name letter
+rule_by_form name (forms.LongOption shown) = long_option name
+rule_by_form name (forms.Preset shown value) =
     record (long_option name) { defaults = value.now ∷ [] }
-rule_by_form name (Parsed shown parser) = record (long_option name) { parser = Some parser }
-rule_by_form name (Operand shown) = operand name
+rule_by_form name (forms.Parsed shown parser) = record (long_option name) { parser = Some parser }
+rule_by_form name (forms.Operand shown) = operand name
 
 -- A word has to be there, or excludes others, or needs them, or has to be there where none of
 -- others is.

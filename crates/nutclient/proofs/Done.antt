@@ -10,9 +10,7 @@ use Rattle.nutrequest.specs.Reply.{Reply, Whole, Refused, Bad, Unfinished, reply
 use Rattle.nutrequest.specs.declared.item.Item.{Item}
 use Rattle.nutrequest.specs.declared.request.Request.{Request}
 use Rattle.nutrequest.specs.declared.faults.ClientFault.{ClientFault}
-use Rattle.nutrequest.specs.declared.faults.ClientFault.TheVariants.{Connect, Read, Write, EarlyEnd}
-use Rattle.nutrequest.specs.declared.faults.ClientFault.TheVariants.{ErrWord, BadReply, BadTarget}
-use Rattle.nutrequest.specs.declared.faults.ClientFault.TheVariants.{Memory}
+use Rattle.nutrequest.specs.declared.faults.ClientFault.TheVariants as faults
 use Rattle.nutclient.specs.Requests.{lines_behind, sent_lines, reply_behind, last_reply, last_reply_after}
 use Rattle.nutclient.specs.Printed.{RunGives}
 use Rattle.nutclient.specs.Ending.{EndsBy, IsDone}
@@ -39,15 +37,15 @@ whole_sent (request ∷ requests) before items bytes rest whole =
     by_reply Unfinished h of_rest = cc h
 
 -- a fault that isn't one of the words has status 1
-pub status_one : (fault : ClientFault) → (fault ≡ BadTarget → ⊥) → status_of fault ≡ 1
-status_one BadTarget none = absurd (none refl)
-status_one Connect none = refl
-status_one Read none = refl
-status_one Write none = refl
-status_one EarlyEnd none = refl
-status_one (ErrWord word) none = refl
-status_one BadReply none = refl
-status_one Memory none = refl
+pub status_one : (fault : ClientFault) → (fault ≡ faults.BadTarget → ⊥) → status_of fault ≡ 1
+status_one faults.BadTarget none = absurd (none refl)
+status_one faults.Connect none = refl
+status_one faults.Read none = refl
+status_one faults.Write none = refl
+status_one faults.EarlyEnd none = refl
+status_one (faults.ErrWord word) none = refl
+status_one faults.BadReply none = refl
+status_one faults.Memory none = refl
 
 -- a new session has read nothing
 from_new : {R W O : Type 0} (rem : R → Option (List ℕ)) (rf : R → ℕ)

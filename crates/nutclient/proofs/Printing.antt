@@ -8,9 +8,7 @@ use Rattle.nutio.specs.Ends.{counted, NoneFailed}
 use Rattle.nutrequest.specs.declared.item.Item.{Item}
 use Rattle.nutrequest.specs.declared.request.Request.{Request}
 use Rattle.nutrequest.specs.declared.faults.ClientFault.{ClientFault}
-use Rattle.nutrequest.specs.declared.faults.ClientFault.TheVariants.{Connect, Read, Write, EarlyEnd}
-use Rattle.nutrequest.specs.declared.faults.ClientFault.TheVariants.{ErrWord, BadReply, BadTarget}
-use Rattle.nutrequest.specs.declared.faults.ClientFault.TheVariants.{Memory}
+use Rattle.nutrequest.specs.declared.faults.ClientFault.TheVariants as faults
 use Rattle.nutclient.specs.Requests.{RequestsGive}
 use Rattle.nutclient.specs.Shown.{shown}
 use Rattle.nutclient.specs.Printed.{Printed, Prints, Faults, printed, printed_of, text_of}
@@ -65,7 +63,8 @@ pub run_answers : {R W O : Type 0} (rem : R → Option (List ℕ)) (rf : R → �
     → RunGives rem rf con wf oc of requests form is_terminal old reader writer out result new
     after sent then → rem reader ≡ Some xs → NoneFailed (rf reader) (rf after) →
     NoneFailed (wf writer) (wf sent) → NoneFailed (of out) (of then)
-    → (result ≡ Err Memory → ⊥) → Answers oc is_terminal (printed requests form (old ++ xs)) out result then
+    → (result ≡ Err faults.Memory → ⊥) →
+    Answers oc is_terminal (printed requests form (old ++ xs)) out result then
 run_answers rem rf con wf oc of requests form is_terminal old xs new reader after writer sent out
     then (Ok tt) g e r w o m =
     let k = came_all (rem reader) (rem after) xs g.1.0 e g.1.2.bytes in
@@ -73,51 +72,51 @@ run_answers rem rf con wf oc of requests form is_terminal old xs new reader afte
     (all_printed requests form is_terminal old g.1.0 k.0 xs (Prints (text_of form g.0)) k.1
     (λ more. ap (printed_of form) (g.1.5 more))) (refl, g.2.bytes_written)
 run_answers rem rf con wf oc of requests form is_terminal old xs new reader after writer sent out
-    then (Err Write) (inl g) e r w o m = absurd (grew (wf writer) (wf sent) w g.0.3.failed)
+    then (Err faults.Write) (inl g) e r w o m = absurd (grew (wf writer) (wf sent) w g.0.3.failed)
 run_answers rem rf con wf oc of requests form is_terminal old xs new reader after writer sent out
-    then (Err Write) (inr g) e r w o m = absurd (grew (of out) (of then) o g.2.failed)
+    then (Err faults.Write) (inr g) e r w o m = absurd (grew (of out) (of then) o g.2.failed)
 run_answers rem rf con wf oc of requests form is_terminal old xs new reader after writer sent out
-    then (Err (ErrWord v)) (inl g) e r w o m =
+    then (Err (faults.ErrWord v)) (inl g) e r w o m =
     let f = g.0.2 in
     let k = came_all (rem reader) (rem after) xs f.0 e f.1.bytes in
-    subst (λ p. Answers oc is_terminal p out (Err (ErrWord v)) then)
-    (all_printed requests form is_terminal old f.0 k.0 xs (Faults (ErrWord v)) k.1
+    subst (λ p. Answers oc is_terminal p out (Err (faults.ErrWord v)) then)
+    (all_printed requests form is_terminal old f.0 k.0 xs (Faults (faults.ErrWord v)) k.1
     (λ more. ap (printed_of form) (f.2 more).1)) (refl, g.1)
 run_answers rem rf con wf oc of requests form is_terminal old xs new reader after writer sent out
-    then (Err BadReply) (inl g) e r w o m =
+    then (Err faults.BadReply) (inl g) e r w o m =
     let f = g.0.2 in
     let k = came_all (rem reader) (rem after) xs f.0 e f.1.bytes in
-    subst (λ p. Answers oc is_terminal p out (Err BadReply) then)
-    (all_printed requests form is_terminal old f.0 k.0 xs (Faults BadReply) k.1
+    subst (λ p. Answers oc is_terminal p out (Err faults.BadReply) then)
+    (all_printed requests form is_terminal old f.0 k.0 xs (Faults faults.BadReply) k.1
     (λ more. ap (printed_of form) (f.2 more).1)) (refl, g.1)
 run_answers rem rf con wf oc of requests form is_terminal old xs new reader after writer sent out
-    then (Err EarlyEnd) (inl g) e r w o m =
+    then (Err faults.EarlyEnd) (inl g) e r w o m =
     let f = g.0.2 in
     let k = came_all (rem reader) (rem after) xs f.0 e f.1.bytes in
     let none : k.0 ≡ [] = at_end (rem after) k.0 k.2 f.2 in
     let all : xs ≡ f.0 = k.1 ∙ ap (λ t. f.0 ++ t) none ∙ append-nil f.0 in
-    subst (λ p. Answers oc is_terminal p out (Err EarlyEnd) then)
+    subst (λ p. Answers oc is_terminal p out (Err faults.EarlyEnd) then)
     (sym (ap (λ bs. printed requests form (old ++ bs)) all ∙ ap (printed_of form) f.3.1)) (refl, g.1)
 run_answers rem rf con wf oc of requests form is_terminal old xs new reader after writer sent out
-    then (Err Read) (inl g) e r w o m = absurd (grew (rf reader) (rf after) r g.0.2.1.failed)
+    then (Err faults.Read) (inl g) e r w o m = absurd (grew (rf reader) (rf after) r g.0.2.1.failed)
 run_answers rem rf con wf oc of requests form is_terminal old xs new reader after writer sent out
-    then (Err Memory) g e r w o m = absurd (m refl)
+    then (Err faults.Memory) g e r w o m = absurd (m refl)
 run_answers rem rf con wf oc of requests form is_terminal old xs new reader after writer sent out
-    then (Err Connect) (inl g) e r w o m = absurd g.0.2
+    then (Err faults.Connect) (inl g) e r w o m = absurd g.0.2
 run_answers rem rf con wf oc of requests form is_terminal old xs new reader after writer sent out
-    then (Err BadTarget) (inl g) e r w o m = absurd g.0.2
+    then (Err faults.BadTarget) (inl g) e r w o m = absurd g.0.2
 run_answers rem rf con wf oc of requests form is_terminal old xs new reader after writer sent out
-    then (Err (ErrWord v)) (inr g) e r w o m = absurd g.2
+    then (Err (faults.ErrWord v)) (inr g) e r w o m = absurd g.2
 run_answers rem rf con wf oc of requests form is_terminal old xs new reader after writer sent out
-    then (Err BadReply) (inr g) e r w o m = absurd g.2
+    then (Err faults.BadReply) (inr g) e r w o m = absurd g.2
 run_answers rem rf con wf oc of requests form is_terminal old xs new reader after writer sent out
-    then (Err EarlyEnd) (inr g) e r w o m = absurd g.2
+    then (Err faults.EarlyEnd) (inr g) e r w o m = absurd g.2
 run_answers rem rf con wf oc of requests form is_terminal old xs new reader after writer sent out
-    then (Err Read) (inr g) e r w o m = absurd g.2
+    then (Err faults.Read) (inr g) e r w o m = absurd g.2
 run_answers rem rf con wf oc of requests form is_terminal old xs new reader after writer sent out
-    then (Err Connect) (inr g) e r w o m = absurd g.2
+    then (Err faults.Connect) (inr g) e r w o m = absurd g.2
 run_answers rem rf con wf oc of requests form is_terminal old xs new reader after writer sent out
-    then (Err BadTarget) (inr g) e r w o m = absurd g.2
+    then (Err faults.BadTarget) (inr g) e r w o m = absurd g.2
 
 -- no job ends with a fault of its words
 pub no_word_fault : {R W O : Type 0} (rem : R → Option (List ℕ)) (rf : R → ℕ)
@@ -125,7 +124,7 @@ pub no_word_fault : {R W O : Type 0} (rem : R → Option (List ℕ)) (rf : R →
     (requests : List Request) (form : Form) (is_terminal : Bool) (old new : List ℕ)
     (reader after : R) (writer sent : W) (out then : O) (result : Result (Unit {0}) ClientFault)
     → RunGives rem rf con wf oc of requests form is_terminal old reader writer out result new
-    after sent then → result ≡ Err BadTarget → ⊥
+    after sent then → result ≡ Err faults.BadTarget → ⊥
 no_word_fault rem rf con wf oc of requests form is_terminal old new reader after writer sent out then result g e =
     elim (subst (λ r. RunGives rem rf con wf oc of requests form is_terminal old reader writer out
     r new after sent then) e g) [

@@ -10,9 +10,7 @@ use Rattle.nutrequest.specs.Session.{AskGives}
 use Rattle.nutrequest.specs.declared.item.Item.{Item}
 use Rattle.nutrequest.specs.declared.request.Request.{Request}
 use Rattle.nutrequest.specs.declared.faults.ClientFault.{ClientFault}
-use Rattle.nutrequest.specs.declared.faults.ClientFault.TheVariants.{Connect, Read, Write, EarlyEnd}
-use Rattle.nutrequest.specs.declared.faults.ClientFault.TheVariants.{ErrWord, BadReply, BadTarget}
-use Rattle.nutrequest.specs.declared.faults.ClientFault.TheVariants.{Memory}
+use Rattle.nutrequest.specs.declared.faults.ClientFault.TheVariants as faults
 use Rattle.nutclient.specs.Requests.{lines_behind, sent_lines, reply_behind, last_reply_after, last_reply, RequestsGive}
 use Rattle.nutio.proofs.PublicLaws.{nothing_is_received, received_joins, read_failed_joins}
 use Rattle.nutio.proofs.PublicLaws.{nothing_is_written, written_joins, write_failed_joins}
@@ -118,14 +116,14 @@ module _ {R W : Type 0} (rem : R → Option (List ℕ)) (rf : R → ℕ)
   pub ends_early : (new : List ℕ) (after : R) (sent : W) (fault : ClientFault)
       → AskGives rem rf con wf request kept mid middle (Err fault) new after sent
       → RequestsGive rem rf con wf all old reader writer (Err fault) new after sent
-  ends_early new after sent Write a = (
+  ends_early new after sent faults.Write a = (
     i.came,
     i.text ++ request_line request,
     subst (λ r. Received rem rf reader i.came r) (sym a.1) i.read,
     write_failed_joins con wf writer middle sent i.text (request_line request) i.written a.0,
     begins,
   )
-  ends_early new after sent (ErrWord w) a = let f = a.1 in (
+  ends_early new after sent (faults.ErrWord w) a = let f = a.1 in (
     i.text ++ request_line request,
     written_joins con wf writer middle sent i.text (request_line request) i.written a.0,
     (
@@ -134,7 +132,7 @@ module _ {R W : Type 0} (rem : R → Option (List ℕ)) (rf : R → ℕ)
       λ more. read_more f.0 more (Refused w) (f.2 more) refl refl,
     ),
   )
-  ends_early new after sent BadReply a = let f = a.1 in (
+  ends_early new after sent faults.BadReply a = let f = a.1 in (
     i.text ++ request_line request,
     written_joins con wf writer middle sent i.text (request_line request) i.written a.0,
     (
@@ -143,7 +141,7 @@ module _ {R W : Type 0} (rem : R → Option (List ℕ)) (rf : R → ℕ)
       λ more. read_more f.0 more Bad (f.2 more) refl refl,
     ),
   )
-  ends_early new after sent EarlyEnd a = let f = a.1 in (
+  ends_early new after sent faults.EarlyEnd a = let f = a.1 in (
     i.text ++ request_line request,
     written_joins con wf writer middle sent i.text (request_line request) i.written a.0,
     (
@@ -153,7 +151,7 @@ module _ {R W : Type 0} (rem : R → Option (List ℕ)) (rf : R → ℕ)
       read_so f.0 Unfinished f.3 refl refl,
     ),
   )
-  ends_early new after sent Read a = let f = a.1 in (
+  ends_early new after sent faults.Read a = let f = a.1 in (
     i.text ++ request_line request,
     written_joins con wf writer middle sent i.text (request_line request) i.written a.0,
     (
@@ -162,7 +160,7 @@ module _ {R W : Type 0} (rem : R → Option (List ℕ)) (rf : R → ℕ)
       read_so f.0 Unfinished f.2 refl refl,
     ),
   )
-  ends_early new after sent Memory a = let f = a.1 in (
+  ends_early new after sent faults.Memory a = let f = a.1 in (
     i.came ++ f.0,
     i.text ++ request_line request,
     received_joins rem rf reader mid after i.came f.0 i.read f.1,
@@ -170,5 +168,5 @@ module _ {R W : Type 0} (rem : R → Option (List ℕ)) (rf : R → ℕ)
     λ more. subst (λ bs. IsBeginning (i.text ++ request_line request) (sent_lines all (old ++ bs)))
         (sym (append_assoc i.came f.0 more)) (begins (f.0 ++ more)),
   )
-  ends_early new after sent Connect a = absurd a.1
-  ends_early new after sent BadTarget a = absurd a.1
+  ends_early new after sent faults.Connect a = absurd a.1
+  ends_early new after sent faults.BadTarget a = absurd a.1

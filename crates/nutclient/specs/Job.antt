@@ -22,10 +22,7 @@ use Rattle.nutclient.specs.declared.form.Form.{Form}
 use Rattle.nutclient.specs.declared.form.Form.TheVariants.{Name, Value, Colon, Equals}
 use Rattle.nutclient.specs.declared.given.Sender.{Sender}
 use Rattle.nutclient.specs.declared.given.Given.{Given}
-use Rattle.nutclient.specs.declared.given.Given.TheVariants.{Variables, Variable, Upses}
-use Rattle.nutclient.specs.declared.given.Given.TheVariants.{Descriptions, Clients, Attached}
-use Rattle.nutclient.specs.declared.given.Given.TheVariants.{Tracked, Writable, Set, Commands}
-use Rattle.nutclient.specs.declared.given.Given.TheVariants.{Command}
+use Rattle.nutclient.specs.declared.given.Given.TheVariants as given
 
 -- A UPS and its server.
 abbrev pub UpsPlace : Type 0
@@ -120,17 +117,17 @@ tracked_of = both (λ place id. (place.1, GetTracking id ∷ [], Value))
 
 -- What each of the programs' forms asks for, where its words are lawful.
 abbrev pub job_of : Given → Option JobParts
-job_of (Variables ups) = listing_of Var Colon (ups_place_of ups.now)
-job_of (Variable ups name) = variable_of (ups_place_of ups.now) (lawful (read_name name.now))
-job_of (Upses server) = upses_of Name (server_or_local server)
-job_of (Descriptions server) = upses_of Colon (server_or_local server)
-job_of (Clients ups) = listing_of Client Name (ups_place_of ups.now)
-job_of (Attached ups) = count_of (ups_place_of ups.now)
-job_of (Tracked ups id) = tracked_of (ups_place_of ups.now) (read_id id.now)
-job_of (Writable ups) = listing_of Rw Equals (ups_place_of ups.now)
-job_of (Set ups setting by) =
+job_of (given.Variables ups) = listing_of Var Colon (ups_place_of ups.now)
+job_of (given.Variable ups name) = variable_of (ups_place_of ups.now) (lawful (read_name name.now))
+job_of (given.Upses server) = upses_of Name (server_or_local server)
+job_of (given.Descriptions server) = upses_of Colon (server_or_local server)
+job_of (given.Clients ups) = listing_of Client Name (ups_place_of ups.now)
+job_of (given.Attached ups) = count_of (ups_place_of ups.now)
+job_of (given.Tracked ups id) = tracked_of (ups_place_of ups.now) (read_id id.now)
+job_of (given.Writable ups) = listing_of Rw Equals (ups_place_of ups.now)
+job_of (given.Set ups setting by) =
     ordered (login_of by) (set_order by.track (ups_place_of ups.now) (setting_of setting.now))
-job_of (Commands ups) = listing_of Cmd Name (ups_place_of ups.now)
-job_of (Command ups name value by) =
+job_of (given.Commands ups) = listing_of Cmd Name (ups_place_of ups.now)
+job_of (given.Command ups name value by) =
     ordered (login_of by)
     (command_order by.track (ups_place_of ups.now) (lawful (read_name name.now)) (value_of value))

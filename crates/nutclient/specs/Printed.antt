@@ -1,5 +1,6 @@
 -- What a client prints of a reply.
-use Rattle.std.specs.Prelude.{◌≡◌, ℕ, Bool, List, [], ◌∷◌, ◌++◌, ◌⊎◌, Option, Result, Ok, Err, codes}
+use Rattle.std.specs.Prelude.{◌≡◌, ℕ, Bool, List, [], ◌∷◌, ◌++◌, ◌⊎◌, Option, Result, Ok, Err}
+use Rattle.std.specs.Prelude.{codes}
 use Rattle.std.specs.List.{flat_map}
 use Rattle.std.specs.Io.KnownBytes.{Appends}
 use Rattle.nutrequest.specs.Reply.{Reply, Whole, Bad, Unfinished, Refused}
@@ -7,8 +8,7 @@ use Rattle.nutio.specs.Ends.{Written, WriteFailed}
 use Rattle.nutrequest.specs.declared.item.Item.{Item}
 use Rattle.nutrequest.specs.declared.request.Request.{Request}
 use Rattle.nutrequest.specs.declared.faults.ClientFault.{ClientFault}
-use Rattle.nutrequest.specs.declared.faults.ClientFault.TheVariants.{EarlyEnd, ErrWord, BadReply}
-use Rattle.nutrequest.specs.declared.faults.ClientFault.TheVariants.{Write, Memory}
+use Rattle.nutrequest.specs.declared.faults.ClientFault.TheVariants as faults
 use Rattle.nutclient.specs.Requests.{RequestsGive, last_reply}
 use Rattle.nutclient.specs.Shown.{shown}
 use Rattle.nutclient.specs.declared.form.Form.{Form}
@@ -35,9 +35,9 @@ pub data Printed : Type 0 where
 
 abbrev pub printed_of : Form → Reply → Printed
 printed_of form (Whole items rest) = Prints (text_of form items)
-printed_of form (Refused word) = Faults (ErrWord word)
-printed_of form Bad = Faults BadReply
-printed_of form Unfinished = Faults EarlyEnd
+printed_of form (Refused word) = Faults (faults.ErrWord word)
+printed_of form Bad = Faults faults.BadReply
+printed_of form Unfinished = Faults faults.EarlyEnd
 
 -- What is printed for these requests of these bytes.
 abbrev pub printed : List Request → Form → List ℕ → Printed
@@ -48,9 +48,9 @@ printed requests form bytes = printed_of form (last_reply requests bytes)
 abbrev pub PrintGives : {O : Type 0} → (O → Option (List ℕ)) → (O → ℕ) → List ℕ → O
     → Result (Unit {0}) ClientFault → O → Type 0
 PrintGives contents failures text out (Ok done) after = Written contents failures out text after
-PrintGives contents failures text out (Err Write) after =
+PrintGives contents failures text out (Err faults.Write) after =
     WriteFailed contents failures out text after
-PrintGives contents failures text out (Err Memory) after = after ≡ out
+PrintGives contents failures text out (Err faults.Memory) after = after ≡ out
 PrintGives contents failures text out result after = ⊥
 
 -- What was sent, what came and what was printed, for each result of a job: the replies are whole,

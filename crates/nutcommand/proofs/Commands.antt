@@ -2,16 +2,7 @@
 use Rattle.std.proofs.Common.{ℕ, Bool, List, [], ◌∷◌, Option, Result, Ok, Err, refl}
 use Rattle.std.specs.Prelude.{codes, ◌||◌}
 use Rattle.nutcommand.specs.declared.command.Command.{Command}
-use Rattle.nutcommand.specs.declared.command.Command.TheVariants.{Username, Password, Login, Logout}
-use Rattle.nutcommand.specs.declared.command.Command.TheVariants.{Primary, Fsd, InstCmd, GetVar}
-use Rattle.nutcommand.specs.declared.command.Command.TheVariants.{GetType, GetDesc, GetCmdDesc}
-use Rattle.nutcommand.specs.declared.command.Command.TheVariants.{GetUpsDesc, GetNumLogins}
-use Rattle.nutcommand.specs.declared.command.Command.TheVariants.{GetNumAttach, ListUps, ListVar}
-use Rattle.nutcommand.specs.declared.command.Command.TheVariants.{ListRw, ListCmd, ListEnum}
-use Rattle.nutcommand.specs.declared.command.Command.TheVariants.{ListRange, ListClient, Help, Ver}
-use Rattle.nutcommand.specs.declared.command.Command.TheVariants.{NetVer, ProtVer, StartTls}
-use Rattle.nutcommand.specs.declared.command.Command.TheVariants.{SetTracking, GetTracking}
-use Rattle.nutcommand.specs.declared.command.Command.TheVariants.{GetProgress}
+use Rattle.nutcommand.specs.declared.command.Command.TheVariants as commands
 use Rattle.nutcommand.specs.declared.err_word.ErrWord.{ErrWord}
 use Rattle.nutwords.specs.declared.faults.BadLine.{BadLine}
 use Rattle.nutwords.specs.Scan.{read_line}
@@ -26,43 +17,46 @@ use Rattle.nutcommand.proofs.LawfulWords.{alone_lawful, either_lawful, ups_lawfu
 use Rattle.nutcommand.proofs.LawfulWords.{instcmd_words, ups_words, two_words}
 
 tracking_lawful : (words : List (List ℕ)) → IsLawfulResult (tracking_asked words)
-tracking_lawful [] = one_lawful GetTracking tt
-tracking_lawful (id ∷ []) = one_lawful (GetProgress (read_id id)) tt
+tracking_lawful [] = one_lawful commands.GetTracking tt
+tracking_lawful (id ∷ []) = one_lawful (commands.GetProgress (read_id id)) tt
 tracking_lawful (id ∷ other ∷ words) = none_lawful _
 
 get_lawful : (words : List (List ℕ)) → IsLawfulResult (read_get words)
 get_lawful [] = none_lawful _
 get_lawful (kind ∷ words) =
     either_lawful (is_word kind (codes "VAR"))
-    (with_lawful (λ a. GetVar a.0 a.1) (ups_and_name words) (two_words words))
+    (with_lawful (λ a. commands.GetVar a.0 a.1) (ups_and_name words) (two_words words))
     (either_lawful (is_word kind (codes "TYPE"))
-    (with_lawful (λ a. GetType a.0 a.1) (ups_and_name words) (two_words words))
+    (with_lawful (λ a. commands.GetType a.0 a.1) (ups_and_name words) (two_words words))
     (either_lawful (is_word kind (codes "DESC"))
-    (with_lawful (λ a. GetDesc a.0 a.1) (ups_and_name words) (two_words words))
+    (with_lawful (λ a. commands.GetDesc a.0 a.1) (ups_and_name words) (two_words words))
     (either_lawful (is_word kind (codes "CMDDESC"))
-    (with_lawful (λ a. GetCmdDesc a.0 a.1) (ups_and_name words) (two_words words))
+    (with_lawful (λ a. commands.GetCmdDesc a.0 a.1) (ups_and_name words) (two_words words))
     (either_lawful (is_word kind (codes "UPSDESC"))
-    (with_lawful (λ ups. GetUpsDesc ups) (ups_alone words) (ups_words words))
+    (with_lawful (λ ups. commands.GetUpsDesc ups) (ups_alone words) (ups_words words))
     (either_lawful (is_word kind (codes "NUMLOGINS"))
-    (with_lawful (λ ups. GetNumLogins ups) (ups_alone words) (ups_words words))
+    (with_lawful (λ ups. commands.GetNumLogins ups) (ups_alone words) (ups_words words))
     (either_lawful (is_word kind (codes "NUMATTACH"))
-    (with_lawful (λ ups. GetNumAttach ups) (ups_alone words) (ups_words words))
+    (with_lawful (λ ups. commands.GetNumAttach ups) (ups_alone words) (ups_words words))
     (either_lawful (is_word kind (codes "TRACKING")) (tracking_lawful words)
     (none_lawful _))))))))
 
 list_lawful : (words : List (List ℕ)) → IsLawfulResult (read_list words)
 list_lawful [] = none_lawful _
 list_lawful (kind ∷ words) =
-    either_lawful (is_word kind (codes "UPS")) (alone_lawful ListUps words tt)
-    (either_lawful (is_word kind (codes "VAR")) (with_lawful (λ ups. ListVar ups) (ups_alone words) (ups_words words))
-    (either_lawful (is_word kind (codes "RW")) (with_lawful (λ ups. ListRw ups) (ups_alone words) (ups_words words))
-    (either_lawful (is_word kind (codes "CMD")) (with_lawful (λ ups. ListCmd ups) (ups_alone words) (ups_words words))
+    either_lawful (is_word kind (codes "UPS")) (alone_lawful commands.ListUps words tt)
+    (either_lawful (is_word kind (codes "VAR"))
+    (with_lawful (λ ups. commands.ListVar ups) (ups_alone words) (ups_words words))
+    (either_lawful (is_word kind (codes "RW"))
+    (with_lawful (λ ups. commands.ListRw ups) (ups_alone words) (ups_words words))
+    (either_lawful (is_word kind (codes "CMD"))
+    (with_lawful (λ ups. commands.ListCmd ups) (ups_alone words) (ups_words words))
     (either_lawful (is_word kind (codes "ENUM"))
-    (with_lawful (λ a. ListEnum a.0 a.1) (ups_and_name words) (two_words words))
+    (with_lawful (λ a. commands.ListEnum a.0 a.1) (ups_and_name words) (two_words words))
     (either_lawful (is_word kind (codes "RANGE"))
-    (with_lawful (λ a. ListRange a.0 a.1) (ups_and_name words) (two_words words))
+    (with_lawful (λ a. commands.ListRange a.0 a.1) (ups_and_name words) (two_words words))
     (either_lawful (is_word kind (codes "CLIENT"))
-    (with_lawful (λ ups. ListClient ups) (ups_alone words) (ups_words words))
+    (with_lawful (λ ups. commands.ListClient ups) (ups_alone words) (ups_words words))
     (none_lawful _)))))))
 
 set_lawful : (words : List (List ℕ)) → IsLawfulResult (read_set words)
@@ -70,12 +64,12 @@ set_lawful [] = none_lawful _
 set_lawful (kind ∷ words) =
     either_lawful (is_word kind (codes "VAR")) (set_var_lawful (ups_name_and_value_if_any words) (instcmd_words words))
     (either_lawful (is_word kind (codes "TRACKING"))
-    (with_lawful (λ (on : Bool). SetTracking on) (on_or_off words) (λ on e. tt))
+    (with_lawful (λ (on : Bool). commands.SetTracking on) (on_or_off words) (λ on e. tt))
     (none_lawful _))
 
 instcmd_lawful : (words : List (List ℕ)) → IsLawfulResult (read_instcmd words)
 instcmd_lawful words = with_lawful
-    (λ (a : Names (Option (Option (List ℕ)))). InstCmd a.0 a.1 a.2)
+    (λ (a : Names (Option (Option (List ℕ)))). commands.InstCmd a.0 a.1 a.2)
     (ups_name_and_value_if_any words) (instcmd_words words)
 
 named_lawful : (first : List ℕ) (words : List (List ℕ)) → IsLawfulResult (command_named first words)
@@ -84,20 +78,21 @@ named_lawful first words =
     (either_lawful (is_word first (codes "LIST")) (list_lawful words)
     (either_lawful (is_word first (codes "SET")) (set_lawful words)
     (either_lawful (is_word first (codes "USERNAME"))
-    (with_lawful (λ (name : Option (List ℕ)). Username name) (user_name_alone words) (λ a e. tt))
+    (with_lawful (λ (name : Option (List ℕ)). commands.Username name) (user_name_alone words) (λ a e. tt))
     (either_lawful (is_word first (codes "PASSWORD"))
-    (with_lawful (λ (name : Option (List ℕ)). Password name) (password_alone words) (λ a e. tt))
+    (with_lawful (λ (name : Option (List ℕ)). commands.Password name) (password_alone words) (λ a e. tt))
     (either_lawful (is_word first (codes "LOGIN") || is_word first (codes "ATTACH"))
-    (ups_lawful (λ ups. Login ups) words (λ ups. tt))
-    (either_lawful (is_word first (codes "LOGOUT") || is_word first (codes "DETACH")) (alone_lawful Logout words tt)
-    (either_lawful (is_word first (codes "PRIMARY")) (ups_lawful (λ ups. Primary ups) words (λ ups. tt))
-    (either_lawful (is_word first (codes "FSD")) (ups_lawful (λ ups. Fsd ups) words (λ ups. tt))
+    (ups_lawful (λ ups. commands.Login ups) words (λ ups. tt))
+    (either_lawful (is_word first (codes "LOGOUT") || is_word first (codes "DETACH"))
+    (alone_lawful commands.Logout words tt)
+    (either_lawful (is_word first (codes "PRIMARY")) (ups_lawful (λ ups. commands.Primary ups) words (λ ups. tt))
+    (either_lawful (is_word first (codes "FSD")) (ups_lawful (λ ups. commands.Fsd ups) words (λ ups. tt))
     (either_lawful (is_word first (codes "INSTCMD")) (instcmd_lawful words)
-    (either_lawful (is_word first (codes "HELP")) (alone_lawful Help words tt)
-    (either_lawful (is_word first (codes "VER")) (alone_lawful Ver words tt)
-    (either_lawful (is_word first (codes "NETVER")) (alone_lawful NetVer words tt)
-    (either_lawful (is_word first (codes "PROTVER")) (alone_lawful ProtVer words tt)
-    (either_lawful (is_word first (codes "STARTTLS")) (alone_lawful StartTls words tt)
+    (either_lawful (is_word first (codes "HELP")) (alone_lawful commands.Help words tt)
+    (either_lawful (is_word first (codes "VER")) (alone_lawful commands.Ver words tt)
+    (either_lawful (is_word first (codes "NETVER")) (alone_lawful commands.NetVer words tt)
+    (either_lawful (is_word first (codes "PROTVER")) (alone_lawful commands.ProtVer words tt)
+    (either_lawful (is_word first (codes "STARTTLS")) (alone_lawful commands.StartTls words tt)
     (none_lawful _)))))))))))))))
 
 some_lawful : (r : Result Command ErrWord) → IsLawfulResult r → IsLawfulReading (some_command r)

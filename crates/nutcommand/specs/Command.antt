@@ -10,17 +10,7 @@ use Rattle.nuttracking.specs.Id.{read_id}
 use Rattle.nutusers.specs.Credentials.{read_user_name, read_password}
 use Rattle.nutwords.specs.Spelling.{is_word}
 use Rattle.nutcommand.specs.declared.command.Command.{Command}
-use Rattle.nutcommand.specs.declared.command.Command.TheVariants.{Username, Password, Login, Logout}
-use Rattle.nutcommand.specs.declared.command.Command.TheVariants.{Primary, Fsd, SetVar, InstCmd}
-use Rattle.nutcommand.specs.declared.command.Command.TheVariants.{GetVar, GetType, GetDesc}
-use Rattle.nutcommand.specs.declared.command.Command.TheVariants.{GetCmdDesc, GetUpsDesc}
-use Rattle.nutcommand.specs.declared.command.Command.TheVariants.{GetNumLogins, GetNumAttach}
-use Rattle.nutcommand.specs.declared.command.Command.TheVariants.{ListUps, ListVar}
-use Rattle.nutcommand.specs.declared.command.Command.TheVariants.{ListRw, ListCmd, ListEnum}
-use Rattle.nutcommand.specs.declared.command.Command.TheVariants.{ListRange, ListClient, Help, Ver}
-use Rattle.nutcommand.specs.declared.command.Command.TheVariants.{NetVer, ProtVer, StartTls}
-use Rattle.nutcommand.specs.declared.command.Command.TheVariants.{SetTracking, GetTracking}
-use Rattle.nutcommand.specs.declared.command.Command.TheVariants.{GetProgress}
+use Rattle.nutcommand.specs.declared.command.Command.TheVariants as commands
 use Rattle.nutcommand.specs.declared.err_word.ErrWord.{ErrWord}
 use Rattle.nutcommand.specs.declared.err_word.ErrWord.TheVariants.{InvalidArgument, UnknownCommand}
 
@@ -89,7 +79,7 @@ abbrev pub set_var_with
     : Result (Names (Option (Option (List ℕ)))) ErrWord → Result Command ErrWord
 set_var_with (Err word) = Err word
 set_var_with (Ok (ups, name, None)) = Err InvalidArgument
-set_var_with (Ok (ups, name, Some value)) = Ok (SetVar ups name value)
+set_var_with (Ok (ups, name, Some value)) = Ok (commands.SetVar ups name value)
 
 -- SET: one case a second word.
 abbrev pub read_set : List (List ℕ) → Result Command ErrWord
@@ -97,35 +87,37 @@ read_set [] = Err InvalidArgument
 read_set (kind ∷ words) =
     if is_word kind (codes "VAR") then set_var_with (ups_name_and_value_if_any words)
     else if is_word kind (codes "TRACKING")
-    then command_with (λ on. SetTracking on) (on_or_off words)
+    then command_with (λ on. commands.SetTracking on) (on_or_off words)
     else Err InvalidArgument
 
 abbrev pub read_instcmd : List (List ℕ) → Result Command ErrWord
-read_instcmd words = command_with (λ a. InstCmd a.0 a.1 a.2) (ups_name_and_value_if_any words)
+read_instcmd words = command_with (λ a. commands.InstCmd a.0 a.1 a.2)
+    (ups_name_and_value_if_any words)
 
 -- GET TRACKING: without a word, or with a word that is to be an id, and is none where it isn't one.
 abbrev pub tracking_asked : List (List ℕ) → Result Command ErrWord
-tracking_asked [] = Ok GetTracking
-tracking_asked (id ∷ []) = Ok (GetProgress (read_id id))
+tracking_asked [] = Ok commands.GetTracking
+tracking_asked (id ∷ []) = Ok (commands.GetProgress (read_id id))
 tracking_asked _ = Err InvalidArgument
 
 -- GET: one case a second word.
 abbrev pub read_get : List (List ℕ) → Result Command ErrWord
 read_get [] = Err InvalidArgument
 read_get (kind ∷ words) =
-    if is_word kind (codes "VAR") then command_with (λ a. GetVar a.0 a.1) (ups_and_name words)
+    if is_word kind (codes "VAR")
+    then command_with (λ a. commands.GetVar a.0 a.1) (ups_and_name words)
     else if is_word kind (codes "TYPE")
-    then command_with (λ a. GetType a.0 a.1) (ups_and_name words)
+    then command_with (λ a. commands.GetType a.0 a.1) (ups_and_name words)
     else if is_word kind (codes "DESC")
-    then command_with (λ a. GetDesc a.0 a.1) (ups_and_name words)
+    then command_with (λ a. commands.GetDesc a.0 a.1) (ups_and_name words)
     else if is_word kind (codes "CMDDESC")
-    then command_with (λ a. GetCmdDesc a.0 a.1) (ups_and_name words)
+    then command_with (λ a. commands.GetCmdDesc a.0 a.1) (ups_and_name words)
     else if is_word kind (codes "UPSDESC")
-    then command_with (λ ups. GetUpsDesc ups) (ups_alone words)
+    then command_with (λ ups. commands.GetUpsDesc ups) (ups_alone words)
     else if is_word kind (codes "NUMLOGINS")
-    then command_with (λ ups. GetNumLogins ups) (ups_alone words)
+    then command_with (λ ups. commands.GetNumLogins ups) (ups_alone words)
     else if is_word kind (codes "NUMATTACH")
-    then command_with (λ ups. GetNumAttach ups) (ups_alone words)
+    then command_with (λ ups. commands.GetNumAttach ups) (ups_alone words)
     else if is_word kind (codes "TRACKING") then tracking_asked words
     else Err InvalidArgument
 
@@ -133,37 +125,42 @@ read_get (kind ∷ words) =
 abbrev pub read_list : List (List ℕ) → Result Command ErrWord
 read_list [] = Err InvalidArgument
 read_list (kind ∷ words) =
-    if is_word kind (codes "UPS") then alone ListUps words
-    else if is_word kind (codes "VAR") then command_with (λ ups. ListVar ups) (ups_alone words)
-    else if is_word kind (codes "RW") then command_with (λ ups. ListRw ups) (ups_alone words)
-    else if is_word kind (codes "CMD") then command_with (λ ups. ListCmd ups) (ups_alone words)
+    if is_word kind (codes "UPS") then alone commands.ListUps words
+    else if is_word kind (codes "VAR")
+    then command_with (λ ups. commands.ListVar ups) (ups_alone words)
+    else if is_word kind (codes "RW")
+    then command_with (λ ups. commands.ListRw ups) (ups_alone words)
+    else if is_word kind (codes "CMD")
+    then command_with (λ ups. commands.ListCmd ups) (ups_alone words)
     else if is_word kind (codes "ENUM")
-    then command_with (λ a. ListEnum a.0 a.1) (ups_and_name words)
+    then command_with (λ a. commands.ListEnum a.0 a.1) (ups_and_name words)
     else if is_word kind (codes "RANGE")
-    then command_with (λ a. ListRange a.0 a.1) (ups_and_name words)
+    then command_with (λ a. commands.ListRange a.0 a.1) (ups_and_name words)
     else if is_word kind (codes "CLIENT")
-    then command_with (λ ups. ListClient ups) (ups_alone words)
+    then command_with (λ ups. commands.ListClient ups) (ups_alone words)
     else Err InvalidArgument
 
 -- The commands except GET, LIST and SET, some of them by two words: one case a first word.
 abbrev pub other_command : List ℕ → List (List ℕ) → Result Command ErrWord
 other_command first words =
     if is_word first (codes "USERNAME")
-    then command_with (λ name. Username name) (user_name_alone words)
+    then command_with (λ name. commands.Username name) (user_name_alone words)
     else if is_word first (codes "PASSWORD")
-    then command_with (λ password. Password password) (password_alone words)
+    then command_with (λ password. commands.Password password) (password_alone words)
     else if is_word first (codes "LOGIN") || is_word first (codes "ATTACH")
-    then command_with (λ ups. Login ups) (ups_alone words)
+    then command_with (λ ups. commands.Login ups) (ups_alone words)
     else if is_word first (codes "LOGOUT") || is_word first (codes "DETACH")
-    then alone Logout words
-    else if is_word first (codes "PRIMARY") then command_with (λ ups. Primary ups) (ups_alone words)
-    else if is_word first (codes "FSD") then command_with (λ ups. Fsd ups) (ups_alone words)
+    then alone commands.Logout words
+    else if is_word first (codes "PRIMARY")
+    then command_with (λ ups. commands.Primary ups) (ups_alone words)
+    else if is_word first (codes "FSD")
+    then command_with (λ ups. commands.Fsd ups) (ups_alone words)
     else if is_word first (codes "INSTCMD") then read_instcmd words
-    else if is_word first (codes "HELP") then alone Help words
-    else if is_word first (codes "VER") then alone Ver words
-    else if is_word first (codes "NETVER") then alone NetVer words
-    else if is_word first (codes "PROTVER") then alone ProtVer words
-    else if is_word first (codes "STARTTLS") then alone StartTls words
+    else if is_word first (codes "HELP") then alone commands.Help words
+    else if is_word first (codes "VER") then alone commands.Ver words
+    else if is_word first (codes "NETVER") then alone commands.NetVer words
+    else if is_word first (codes "PROTVER") then alone commands.ProtVer words
+    else if is_word first (codes "STARTTLS") then alone commands.StartTls words
     else Err UnknownCommand
 
 -- The command with this first word and these words after it.
@@ -193,15 +190,15 @@ read_command line = command_from (read_line line)
 
 -- The word of the UPS whose data a command asks for, or to whose driver it gives an order.
 abbrev pub asks_data_of : Command → Option (Option (List ℕ))
-asks_data_of (SetVar ups name value) = Some ups
-asks_data_of (InstCmd ups name value) = Some ups
-asks_data_of (GetVar ups name) = Some ups
-asks_data_of (GetType ups name) = Some ups
-asks_data_of (ListVar ups) = Some ups
-asks_data_of (ListRw ups) = Some ups
-asks_data_of (ListCmd ups) = Some ups
-asks_data_of (ListEnum ups name) = Some ups
-asks_data_of (ListRange ups name) = Some ups
+asks_data_of (commands.SetVar ups name value) = Some ups
+asks_data_of (commands.InstCmd ups name value) = Some ups
+asks_data_of (commands.GetVar ups name) = Some ups
+asks_data_of (commands.GetType ups name) = Some ups
+asks_data_of (commands.ListVar ups) = Some ups
+asks_data_of (commands.ListRw ups) = Some ups
+asks_data_of (commands.ListCmd ups) = Some ups
+asks_data_of (commands.ListEnum ups name) = Some ups
+asks_data_of (commands.ListRange ups name) = Some ups
 asks_data_of _ = None
 
 abbrev pub HasLawfulName : Option (List ℕ) → Type 0
@@ -219,21 +216,21 @@ HasLawfulValueIfAny word = (value : List ℕ) → word ≡ Some (Some value) →
 -- The names and values of a command are lawful: of those that give orders, and of those that get or
 -- list what is known of a UPS.
 abbrev pub IsLawfulCommand : Command → Type 0
-IsLawfulCommand (SetVar ups v word) = HasLawfulName v × HasLawfulValue word
-IsLawfulCommand (InstCmd ups v word) = HasLawfulName v × HasLawfulValueIfAny word
-IsLawfulCommand (GetVar ups v) = HasLawfulUpsName ups × HasLawfulName v
-IsLawfulCommand (GetType ups v) = HasLawfulUpsName ups × HasLawfulName v
-IsLawfulCommand (GetDesc ups v) = HasLawfulUpsName ups × HasLawfulName v
-IsLawfulCommand (GetCmdDesc ups v) = HasLawfulUpsName ups × HasLawfulName v
-IsLawfulCommand (GetUpsDesc ups) = HasLawfulUpsName ups
-IsLawfulCommand (GetNumLogins ups) = HasLawfulUpsName ups
-IsLawfulCommand (GetNumAttach ups) = HasLawfulUpsName ups
-IsLawfulCommand (ListVar ups) = HasLawfulUpsName ups
-IsLawfulCommand (ListRw ups) = HasLawfulUpsName ups
-IsLawfulCommand (ListCmd ups) = HasLawfulUpsName ups
-IsLawfulCommand (ListEnum ups v) = HasLawfulUpsName ups × HasLawfulName v
-IsLawfulCommand (ListRange ups v) = HasLawfulUpsName ups × HasLawfulName v
-IsLawfulCommand (ListClient ups) = HasLawfulUpsName ups
+IsLawfulCommand (commands.SetVar ups v word) = HasLawfulName v × HasLawfulValue word
+IsLawfulCommand (commands.InstCmd ups v word) = HasLawfulName v × HasLawfulValueIfAny word
+IsLawfulCommand (commands.GetVar ups v) = HasLawfulUpsName ups × HasLawfulName v
+IsLawfulCommand (commands.GetType ups v) = HasLawfulUpsName ups × HasLawfulName v
+IsLawfulCommand (commands.GetDesc ups v) = HasLawfulUpsName ups × HasLawfulName v
+IsLawfulCommand (commands.GetCmdDesc ups v) = HasLawfulUpsName ups × HasLawfulName v
+IsLawfulCommand (commands.GetUpsDesc ups) = HasLawfulUpsName ups
+IsLawfulCommand (commands.GetNumLogins ups) = HasLawfulUpsName ups
+IsLawfulCommand (commands.GetNumAttach ups) = HasLawfulUpsName ups
+IsLawfulCommand (commands.ListVar ups) = HasLawfulUpsName ups
+IsLawfulCommand (commands.ListRw ups) = HasLawfulUpsName ups
+IsLawfulCommand (commands.ListCmd ups) = HasLawfulUpsName ups
+IsLawfulCommand (commands.ListEnum ups v) = HasLawfulUpsName ups × HasLawfulName v
+IsLawfulCommand (commands.ListRange ups v) = HasLawfulUpsName ups × HasLawfulName v
+IsLawfulCommand (commands.ListClient ups) = HasLawfulUpsName ups
 IsLawfulCommand _ = Unit {0}
 
 -- What was read is lawful, where it is a command.

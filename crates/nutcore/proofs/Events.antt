@@ -7,9 +7,7 @@ use Rattle.nutcore.proofs.Common.{option_map_or, UpsId, TrackingState, Event, Se
 use Rattle.nutcore.proofs.Common.{ups_at, slice_get, option_map, slice_get-map, Outcome}
 use Rattle.nutcore.proofs.Common.{SessionState, cond-false, Fault, UpsState, after}
 use Rattle.nutcore.proofs.Common.{take-append-drop}
-use Rattle.nutcore.specs.declared.event.Event.TheVariants.{DriverUp, DriverBytes, DriverTook}
-use Rattle.nutcore.specs.declared.event.Event.TheVariants.{DriverDown, Tick, Open, Feed, Took}
-use Rattle.nutcore.specs.declared.event.Event.TheVariants.{Close, Id}
+use Rattle.nutcore.specs.declared.event.Event.TheVariants as event
 use Rattle.nutcore.specs.Session.{without}
 use Rattle.nutcore.specs.Ups.{ping_is_due, after_tick, after_loss, after_connecting, ping_line}
 use Rattle.nutcore.specs.Ups.{ups_after_bytes, lines_of}
@@ -41,9 +39,7 @@ use Rattle.std.specs.Prelude.{nat_le}
 use Rattle.nutcore.specs.declared.event.Outcome.TheVariants.{Done, Opened, Refused, Fed}
 use Rattle.nutcore.specs.declared.event.Fault.TheVariants.{TooManyClients, NotConnected}
 use Rattle.nutcore.specs.declared.event.Fault.TheVariants.{TookTooMuch, AlreadyConnected}
-use Rattle.nutcore.specs.declared.event.Fault.TheVariants.{LineTooLong}
-use Rattle.nuttracking.specs.Tracking.{id_fault}
-use Rattle.nutcore.specs.Happenings.{apart_from_bytes}
+use Rattle.nutcore.specs.declared.event.Fault.TheVariants as faults
 use Rattle.nutcore.proofs.Adding.{session_keeps, pump_adds, took_adds, by_client}
 use Rattle.nutcore.proofs.ApartFromBytes.{core_opened, closed_without}
 use Rattle.nuttracking.specs.declared.tracking.IdFault.{IdFault}
@@ -52,15 +48,15 @@ use Rattle.nutcore.proofs.Least.{pump_absent}
 
 -- what one client executes in an event
 unfoldable pub given_by : ℕ → ServerState → Event → Option ℕ → List Execution
-given_by c s (Feed d piece) m = cond (eqb d c) (executions_until (with_input s d piece) d m) []
-given_by c s (Took d n) m = cond (may_take (session d s) n)
+given_by c s (event.Feed d piece) m = cond (eqb d c) (executions_until (with_input s d piece) d m) []
+given_by c s (event.Took d n) m = cond (may_take (session d s) n)
     (cond (eqb d c) (executions_until (without_output s d n) d m) []) []
 given_by c s _ m = []
 
 -- no event by which a client sends or takes
 abbrev pub IsPlain : Event → Type 0
-IsPlain (Feed c piece) = ⊥
-IsPlain (Took c n) = ⊥
+IsPlain (event.Feed c piece) = ⊥
+IsPlain (event.Took c n) = ⊥
 IsPlain _ = Unit {0}
 
 -- nothing is executed, asked or taken, and it costs nothing
@@ -80,8 +76,8 @@ pub record IsApart (e : Event) : Type 0 where
 
 pub silent : (e : Event) → IsPlain e → IsSilent e
 unfolding executions_by given_by taken_in_event asked_in_event
-silent (Feed c piece) plain = absurd plain
-silent (Took c n) plain = absurd plain
+silent (event.Feed c piece) plain = absurd plain
+silent (event.Took c n) plain = absurd plain
 silent e plain = record {
   plain = tt;
   executes = λ s m. refl;
@@ -94,29 +90,30 @@ silent e plain = record {
 
 -- what holds of those, and of what a client sends and takes, holds of each event
 pub of_event : (P : Event → Type 0) → ((e : Event) → IsSilent e → P e) →
-    ((c : ℕ) (piece : List ℕ) → P (Feed c piece)) → ((c n : ℕ) → P (Took c n)) → (e : Event) → P e
-of_event P other feed took (Feed c piece) = feed c piece
-of_event P other feed took (Took c n) = took c n
+    ((c : ℕ) (piece : List ℕ) → P (event.Feed c piece)) →
+    ((c n : ℕ) → P (event.Took c n)) → (e : Event) → P e
+of_event P other feed took (event.Feed c piece) = feed c piece
+of_event P other feed took (event.Took c n) = took c n
 of_event P other feed took e = other e (silent e tt)
 
 -- the same, with those apart that open and close a session
 pub of_session_event : (P : Event → Type 0) → ((e : Event) → IsApart e → P e) →
-    ((address : List ℕ) → P (Open address)) →
-    ((c : ℕ) (piece : List ℕ) → P (Feed c piece)) → ((c n : ℕ) → P (Took c n)) →
-    ((c : ℕ) → P (Close c)) → (e : Event) → P e
+    ((address : List ℕ) → P (event.Open address)) →
+    ((c : ℕ) (piece : List ℕ) → P (event.Feed c piece)) → ((c n : ℕ) → P (event.Took c n)) →
+    ((c : ℕ) → P (event.Close c)) → (e : Event) → P e
 unfolding after_by ticked
-of_session_event P other opens feed took closes (DriverBytes u piece) =
-    let e : Event = DriverBytes u piece in
+of_session_event P other opens feed took closes (event.DriverBytes u piece) =
+    let e : Event = event.DriverBytes u piece in
     other e (record {
       silent = silent e tt;
       sessions =
           λ s m. ap (λ (t : ServerState). t.sessions) (bytes_change u piece m s);
       next_id = λ s m. ap (λ (t : ServerState). t.next_id) (bytes_change u piece m s);
     })
-of_session_event P other opens feed took closes (Open address) = opens address
-of_session_event P other opens feed took closes (Feed c piece) = feed c piece
-of_session_event P other opens feed took closes (Took c n) = took c n
-of_session_event P other opens feed took closes (Close c) = closes c
+of_session_event P other opens feed took closes (event.Open address) = opens address
+of_session_event P other opens feed took closes (event.Feed c piece) = feed c piece
+of_session_event P other opens feed took closes (event.Took c n) = took c n
+of_session_event P other opens feed took closes (event.Close c) = closes c
 of_session_event P other opens feed took closes e =
     other e (record { silent = silent e tt; sessions = λ s m. refl; next_id = λ s m. refl })
 
@@ -125,8 +122,8 @@ of_session_event P other opens feed took closes e =
 pub of_given_beside : (u : UpsId) (s : ServerState) (P : List ServerLine → Type 0) → P [] →
     ((b : Bool) → P (cond b (dump_all ∷ []) [])) →
     ((b : Bool) → P (cond b (ping ∷ []) [])) → (e : Event) → P (given_beside_lines u s e)
-of_given_beside u s P none up tick (DriverUp v) = up (eqb v.place u.place && not (has_driver u s))
-of_given_beside u s P none up tick (Tick seconds) =
+of_given_beside u s P none up tick (event.DriverUp v) = up (eqb v.place u.place && not (has_driver u s))
+of_given_beside u s P none up tick (event.Tick seconds) =
     tick (option_map_or (ping_is_due s.max_age (moment_of s seconds)) (ups_at u.place s) false)
 of_given_beside u s P none up tick e = none
 
@@ -144,29 +141,30 @@ pub of_parts : (s : ServerState) (m : Option ℕ) (Q : (UpsState → UpsState) �
     OfDrivers s.moment s.tracking m Q → (P : Event → ServerState → Type 0)
     → ((e : Event) (u : UpsId) (f : UpsState → UpsState) (lines : List (List ℕ)) →
     ups_of e ≡ Some u → client_of e ≡ None → Q f → P e (changed_both f lines u s))
-    → ((seconds : ℕ) → P (Tick seconds) (ticked seconds s)) →
-    ((address : List ℕ) → P (Open address) (opened s address m))
-    → ((c : ℕ) (piece : List ℕ) → P (Feed c piece) (pumped_until (with_input s c piece) c m))
-    → ((c n : ℕ) → P (Took c n) (cond (may_take (session c s) n) (pumped_until (without_output s c n) c m) s))
+    → ((seconds : ℕ) → P (event.Tick seconds) (ticked seconds s)) →
+    ((address : List ℕ) → P (event.Open address) (opened s address m))
+    → ((c : ℕ) (piece : List ℕ) → P (event.Feed c piece) (pumped_until (with_input s c piece) c m))
+    → ((c n : ℕ) → P (event.Took c n)
+    (cond (may_take (session c s) n) (pumped_until (without_output s c n) c m) s))
     → ((c : ℕ) → let t : ServerState = record s { sessions = without c s.sessions } in
-    P (Close c) t) → ((id : ℕ) → P (Id id) (handed_in id s)) → (e : Event) → P e (after_by s e m)
+    P (event.Close c) t) → ((id : ℕ) → P (event.Id id) (handed_in id s)) → (e : Event) → P e (after_by s e m)
 unfolding after_by
-of_parts s m Q drivers P ups tick opens feed took closes hands (DriverUp u) =
-    ups (DriverUp u) u (connected s.moment) [] refl refl drivers.comes
-of_parts s m Q drivers P ups tick opens feed took closes hands (DriverBytes u piece) =
-    subst (P (DriverBytes u piece)) (sym (bytes_change u piece m s))
-    (ups (DriverBytes u piece) u (ups_after_bytes s.moment u.place s.tracking piece m)
+of_parts s m Q drivers P ups tick opens feed took closes hands (event.DriverUp u) =
+    ups (event.DriverUp u) u (connected s.moment) [] refl refl drivers.comes
+of_parts s m Q drivers P ups tick opens feed took closes hands (event.DriverBytes u piece) =
+    subst (P (event.DriverBytes u piece)) (sym (bytes_change u piece m s))
+    (ups (event.DriverBytes u piece) u (ups_after_bytes s.moment u.place s.tracking piece m)
     (lines_read u piece m s) refl refl (drivers.tells u.place piece))
-of_parts s m Q drivers P ups tick opens feed took closes hands (DriverTook u n) =
-    ups (DriverTook u n) u (after_driver_took n) [] refl refl (drivers.takes n)
-of_parts s m Q drivers P ups tick opens feed took closes hands (DriverDown u) =
-    ups (DriverDown u) u disconnected [] refl refl drivers.goes
-of_parts s m Q drivers P ups tick opens feed took closes hands (Tick seconds) = tick seconds
-of_parts s m Q drivers P ups tick opens feed took closes hands (Open address) = opens address
-of_parts s m Q drivers P ups tick opens feed took closes hands (Feed c piece) = feed c piece
-of_parts s m Q drivers P ups tick opens feed took closes hands (Took c n) = took c n
-of_parts s m Q drivers P ups tick opens feed took closes hands (Close c) = closes c
-of_parts s m Q drivers P ups tick opens feed took closes hands (Id id) = hands id
+of_parts s m Q drivers P ups tick opens feed took closes hands (event.DriverTook u n) =
+    ups (event.DriverTook u n) u (after_driver_took n) [] refl refl (drivers.takes n)
+of_parts s m Q drivers P ups tick opens feed took closes hands (event.DriverDown u) =
+    ups (event.DriverDown u) u disconnected [] refl refl drivers.goes
+of_parts s m Q drivers P ups tick opens feed took closes hands (event.Tick seconds) = tick seconds
+of_parts s m Q drivers P ups tick opens feed took closes hands (event.Open address) = opens address
+of_parts s m Q drivers P ups tick opens feed took closes hands (event.Feed c piece) = feed c piece
+of_parts s m Q drivers P ups tick opens feed took closes hands (event.Took c n) = took c n
+of_parts s m Q drivers P ups tick opens feed took closes hands (event.Close c) = closes c
+of_parts s m Q drivers P ups tick opens feed took closes hands (event.Id id) = hands id
 
 -- what asks nothing of these changes
 pub any_driver : (moment : ℕ) (t : TrackingState) (m : Option ℕ) → OfDrivers moment t m (λ f. Unit {0})
@@ -181,7 +179,7 @@ pub not_memory : (fault : Fault) → is_harmless fault ≡ true → refused_afte
 not_memory fault h = grind arith
 
 -- what is taken in, or stopped at a line that is too long, is none of these refusals
-taken_in : (n : ℕ) (b : Bool) → is_quiet (cond b (Refused LineTooLong) (Fed n)) ≡ true → ⊥
+taken_in : (n : ℕ) (b : Bool) → is_quiet (cond b (Refused faults.LineTooLong) (Fed n)) ≡ true → ⊥
 taken_in n b h = grind arith
 
 -- what is done unless it is refused
@@ -190,11 +188,11 @@ stays : {A : Type 0} (b : Bool) (o p : Outcome) (t s : A) → is_quiet o ≡ fal
 stays b o p t s done h = grind arith
 
 up_stays : (now : ℕ) (x : UpsState) (b : Bool) →
-    is_quiet (cond b (Refused AlreadyConnected) Done) ≡ true → cond b x (after_connecting now x) ≡ x
+    is_quiet (cond b (Refused faults.AlreadyConnected) Done) ≡ true → cond b x (after_connecting now x) ≡ x
 up_stays now x b h = grind arith
 
 took_stays : (x y : UpsState) (b d : Bool) →
-    is_quiet (cond (not b) (Refused NotConnected) (cond d Done (Refused TookTooMuch))) ≡ true →
+    is_quiet (cond (not b) (Refused faults.NotConnected) (cond d Done (Refused faults.TookTooMuch))) ≡ true →
     cond (b && d) y x ≡ x
 took_stays x y b d h = grind arith
 
@@ -260,7 +258,7 @@ tick_does now u e x moment true =
 tick_does now u e x moment false = stays_so now u e x
 
 up_does : (now : ℕ) (u : UpsId) (e : Event) (x : UpsState) (b : Bool) → x.report.connected ≡
-    b → e ≡ DriverUp u → Does now u e x [] [] (cond (not b) (dump_all ∷ []) []) []
+    b → e ≡ event.DriverUp u → Does now u e x [] [] (cond (not b) (dump_all ∷ []) []) []
     (cond b x (after_connecting now x))
 up_does now u e x true there is = stays_so now u e x
 up_does now u e x false absent is =
@@ -269,11 +267,11 @@ up_does now u e x false absent is =
 
 -- what a driver's bytes leave of a UPS
 bytes_leave : (s : ServerState) (v : UpsId) (piece : List ℕ) (u : UpsId) (o : Outcome)
-    (x : UpsState) → ups_at u.place s ≡ Some x → let e : Event = DriverBytes v piece in
+    (x : UpsState) → ups_at u.place s ≡ Some x → let e : Event = event.DriverBytes v piece in
     Stands u.place (after s e o).upses (Does s.moment u e x (came_in_event u e) (heard_in_event u s e o) [] [])
 unfolding after_by executions_by
 bytes_leave s v piece u o x there =
-    let e : Event = DriverBytes v piece in
+    let e : Event = event.DriverBytes v piece in
     let m : Option ℕ = refused_after o in
     rw (bytes_change v piece m s) (of_place (ups_after_bytes s.moment v.place s.tracking piece m) u
     v s.upses x (Does s.moment u e x (came_in_event u e) (heard_in_event u s e o) [] []) there
@@ -296,24 +294,24 @@ left_alone s u e x xs there = record { ups = x; there = there; is = stays_so s.m
 
 pub each : (s : ServerState) (e : Event) → OfEvent s e
 unfolding outcome_of after_by executions_by pumped_until after_driver_bytes opened ticked with_input lines_read
-each s (DriverUp v) =
-    let e : Event = DriverUp v in record {
+each s (event.DriverUp v) =
+    let e : Event = event.DriverUp v in record {
       quiet = λ h. sym (server_same s v (connected s.moment)
           (λ x there. up_stays s.moment x x.report.connected
           (subst (λ (o : Option UpsState). is_quiet (connected_by o) ≡ true) there h)));
       leaves = λ u o x there.
           of_place (connected s.moment) u v s.upses x (Does s.moment u e x [] [] (given_in_event u s e o) []) there
           (λ k same. rw (append-nil, k, there)
-          (up_does s.moment u e x x.report.connected refl (ap (λ (w : UpsId). DriverUp w) same)))
+          (up_does s.moment u e x x.report.connected refl (ap (λ (w : UpsId). event.DriverUp w) same)))
           (λ k. rw (append-nil, k) (stays_so s.moment u e x));
     }
-each s (DriverBytes v piece) =
-    let e : Event = DriverBytes v piece in record {
+each s (event.DriverBytes v piece) =
+    let e : Event = event.DriverBytes v piece in record {
       quiet = λ h. bytes_stay s v piece h;
       leaves = λ u o x there. bytes_leave s v piece u o x there;
     }
-each s (DriverTook v n) =
-    let e : Event = DriverTook v n in record {
+each s (event.DriverTook v n) =
+    let e : Event = event.DriverTook v n in record {
       quiet = λ h. sym (server_same s v (after_driver_took n)
           (λ x there. took_stays x _ x.report.connected (nat_le n (length x.owed))
           (subst (λ (o : Option UpsState). is_quiet (driver_took_by n o) ≡ true) there h)));
@@ -323,58 +321,58 @@ each s (DriverTook v n) =
           (λ k same. rw (k, there) (took_does s.moment u e x n (driver_may_take n x)))
           (λ k. rw k (stays_so s.moment u e x));
     }
-each s (DriverDown v) =
-    let e : Event = DriverDown v in record {
+each s (event.DriverDown v) =
+    let e : Event = event.DriverDown v in record {
       quiet = λ h. sym (server_same s v disconnected
-          (λ x there. stays x.report.connected Done (Refused NotConnected) (after_loss x) x refl
+          (λ x there. stays x.report.connected Done (Refused faults.NotConnected) (after_loss x) x refl
           (subst (λ (o : Option UpsState). is_quiet (disconnected_by o) ≡ true) there h)));
       leaves = λ u o x there. of_place disconnected u v s.upses x (Does s.moment u e x [] [] [] [])
           there (λ k same. down_does s.moment u e x x.report.connected refl) (λ k. stays_so s.moment u e x);
     }
-each s (Tick seconds) =
+each s (event.Tick seconds) =
     let now : ℕ = max seconds s.moment in record {
       quiet = λ h. cc h;
       leaves = λ u o x there. record {
         ups = after_tick s.max_age now x;
         there = slice_get-map (after_tick s.max_age now) s.upses u.place ∙
             ap (option_map (after_tick s.max_age now)) there;
-        is = rw (append-nil, there) (tick_does s.moment u (Tick seconds) x now (ping_is_due s.max_age now x));
+        is = rw (append-nil, there) (tick_does s.moment u (event.Tick seconds) x now (ping_is_due s.max_age now x));
       };
     }
-each s (Open address) = record {
-  quiet = λ h. stays (may_open s) (Opened s.next_id) (Refused TooManyClients) _ s refl h;
-  leaves = λ u o x there. left_alone s u (Open address) x _
+each s (event.Open address) = record {
+  quiet = λ h. stays (may_open s) (Opened s.next_id) (Refused faults.TooManyClients) _ s refl h;
+  leaves = λ u o x there. left_alone s u (event.Open address) x _
       (of_opened (λ t. ups_at u.place t ≡ Some x) s address (refused_after o) there (λ room. there));
 }
-each s (Feed c piece) = record {
+each s (event.Feed c piece) = record {
   quiet = λ h. feed_stays s c piece (session c s) (is_overlong (after_all_lines (with_input s c piece) c) c) refl h;
-  leaves = λ u o x there. by_client s.moment u (Feed c piece) x _ _
+  leaves = λ u o x there. by_client s.moment u (event.Feed c piece) x _ _
       (pump_adds u (with_input s c piece) c (refused_after o) x (session_keeps u (joined piece) s c x there));
 }
-each s (Took c n) = record {
+each s (event.Took c n) = record {
   quiet = λ h. cond-false _ _ _ (may_not (session c s) n (is_overlong (after_all_lines (without_output s c n) c) c) h);
-  leaves = λ u o x there. by_client s.moment u (Took c n) x _ _
+  leaves = λ u o x there. by_client s.moment u (event.Took c n) x _ _
       (took_adds u s c n (refused_after o) x (may_take (session c s) n) there);
 }
-each s (Close c) = record {
+each s (event.Close c) = record {
   quiet = λ h. close_stays s c (session c s) refl h;
-  leaves = λ u o x there. left_alone s u (Close c) x _ there;
+  leaves = λ u o x there. left_alone s u (event.Close c) x _ there;
 }
-each s (Id id) = record {
+each s (event.Id id) = record {
   quiet = λ h. id_stays s id (id_fault id s.tracking) refl h;
-  leaves = λ u o x there. left_alone s u (Id id) x _ there;
+  leaves = λ u o x there. left_alone s u (event.Id id) x _ there;
 }
 
 -- and what sessions hold and are owed matters to none, but where a client sends or takes
 pub core_event : (s : ServerState) (e : Event) (m : Option ℕ) → IsPlain e →
     after_by (apart_from_bytes s) e m ≡ apart_from_bytes (after_by s e m)
 unfolding after_by ticked lines_read
-core_event s (DriverBytes u piece) m plain = bytes_change u piece m (apart_from_bytes s) ∙
+core_event s (event.DriverBytes u piece) m plain = bytes_change u piece m (apart_from_bytes s) ∙
     ap apart_from_bytes (sym (bytes_change u piece m s))
-core_event s (Open address) m plain = core_opened s address m
-core_event s (Feed c piece) m plain = absurd plain
-core_event s (Took c n) m plain = absurd plain
-core_event s (Close c) m plain = ap
+core_event s (event.Open address) m plain = core_opened s address m
+core_event s (event.Feed c piece) m plain = absurd plain
+core_event s (event.Took c n) m plain = absurd plain
+core_event s (event.Close c) m plain = ap
     (λ (xs : List SessionState). let t : ServerState = record s { sessions = xs } in t)
     (sym (closed_without c s.sessions))
 core_event s e m plain = refl

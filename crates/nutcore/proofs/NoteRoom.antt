@@ -13,9 +13,7 @@ use Rattle.nutwords.proofs.PublicLaws.{first_line_is_cut_off, held_goes_in_front
 use Rattle.nutwords.proofs.PublicLaws.{whole_lines_are_the_cut}
 use Rattle.nutdriver.specs.Report.{after_line, end_in}
 use Rattle.nutcore.proofs.Common.{same_Some, Event, ServerState, session, ups_at, TrackingState, UpsId}
-use Rattle.nutcore.specs.declared.event.Event.TheVariants.{DriverUp, DriverBytes, DriverTook}
-use Rattle.nutcore.specs.declared.event.Event.TheVariants.{DriverDown, Tick, Open, Feed}
-use Rattle.nutcore.specs.declared.event.Event.TheVariants.{Took, Close, Id}
+use Rattle.nutcore.specs.declared.event.Event.TheVariants as event
 use Rattle.nutcore.specs.declared.note.DataState.TheVariants.{Awaited}
 use Rattle.nutcore.specs.declared.note.Note.{Note}
 use Rattle.nutcore.specs.declared.note.Note.TheVariants.{Data}
@@ -174,25 +172,25 @@ tick_few max_age was now place (x ∷ xs) =
 
 all_few : (old : ServerState) (e : Event) (m : Option ℕ) → IsSound old → IsReadAtOnce e →
     length (all_notes old e m) ≤ NOTE_LIMIT
-all_few old (DriverUp u) m h few = omega (arith, ups_few u old (connect_notes u) 1 (λ x k. up_few u x) h)
-all_few old (DriverBytes u piece) m h few =
+all_few old (event.DriverUp u) m h few = omega (arith, ups_few u old (connect_notes u) 1 (λ x k. up_few u x) h)
+all_few old (event.DriverBytes u piece) m h few =
     omega (
       arith,
       few,
       ups_few u old (bytes_notes old u piece m) (3 * length piece + 2)
           (λ x k. bytes_few old u piece m x k.one_line) h,
     )
-all_few old (DriverTook u n) m h few = omega arith
-all_few old (DriverDown u) m h few = omega (arith, ups_few u old (down_notes u) 2 (λ x k. down_few u x) h)
-all_few old (Tick seconds) m h few =
+all_few old (event.DriverTook u n) m h few = omega arith
+all_few old (event.DriverDown u) m h few = omega (arith, ups_few u old (down_notes u) 2 (λ x k. down_few u x) h)
+all_few old (event.Tick seconds) m h few =
     omega (arith, tick_few old.max_age old.moment (max seconds old.moment) 0 old.upses, h.named, h.list.few)
-all_few old (Open address) m h few = omega arith
-all_few old (Feed c piece) m h few =
-    omega (arith, lines_few (executions_by old (Feed c piece) m), executions_few old (Feed c piece) m h)
-all_few old (Took c n) m h few = omega
-    (arith, lines_few (executions_by old (Took c n) m), executions_few old (Took c n) m h)
-all_few old (Close c) m h few = omega (arith, one_at_most (option_and_then logout_of (session c old)))
-all_few old (Id id) m h few = omega arith
+all_few old (event.Open address) m h few = omega arith
+all_few old (event.Feed c piece) m h few =
+    omega (arith, lines_few (executions_by old (event.Feed c piece) m), executions_few old (event.Feed c piece) m h)
+all_few old (event.Took c n) m h few = omega
+    (arith, lines_few (executions_by old (event.Took c n) m), executions_few old (event.Took c n) m h)
+all_few old (event.Close c) m h few = omega (arith, one_at_most (option_and_then logout_of (session c old)))
+all_few old (event.Id id) m h few = omega arith
 
 pub no_note_is_cut : NoNoteIsCut
 no_note_is_cut = λ old e outcome h few. take_all NOTE_LIMIT

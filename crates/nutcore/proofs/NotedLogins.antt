@@ -16,9 +16,7 @@ use Rattle.nutanswer.specs.Rows.{ComesOf}
 use Rattle.nutanswer.proofs.PublicLaws.{each_change_comes_of_its_command}
 use Rattle.nutcore.proofs.Common.{option_map, eqb-true, UpsId, Change, Event, Outcome, SessionState}
 use Rattle.nutcore.proofs.Common.{ServerState, session, with_session_changed, after}
-use Rattle.nutcore.specs.declared.event.Event.TheVariants.{DriverUp, DriverBytes, DriverTook}
-use Rattle.nutcore.specs.declared.event.Event.TheVariants.{DriverDown, Tick, Open, Feed, Took}
-use Rattle.nutcore.specs.declared.event.Event.TheVariants.{Close, Id}
+use Rattle.nutcore.specs.declared.event.Event.TheVariants as event
 use Rattle.nutcore.specs.declared.note.Note.{Note}
 use Rattle.nutcore.specs.declared.note.Note.TheVariants.{LoggedOut}
 use Rattle.nutcore.specs.Session.{new_session, without}
@@ -190,33 +188,33 @@ blind c v = record { state = λ state. refl; status = λ status. refl; refused =
 pub event_logs : (c : ℕ) (s : ServerState) (e : Event) (o : Outcome) →
     Logs c s (all_notes s e (refused_after o)) (after s e o)
 unfolding after_by with_input without_output ticked executions_by
-event_logs c s (DriverUp v) o = leads_nowhere (login_at c s) _ _ (ups_up (login_in c) v (blind c v) s) refl
-event_logs c s (DriverBytes v piece) o =
+event_logs c s (event.DriverUp v) o = leads_nowhere (login_at c s) _ _ (ups_up (login_in c) v (blind c v) s) refl
+event_logs c s (event.DriverBytes v piece) o =
     leads_nowhere (login_at c s) _ _
     (ups_bytes (login_in c) v (blind c v) s piece (refused_after o))
     (ap (login_at c) (bytes_change v piece (refused_after o) s))
-event_logs c s (DriverTook v n) o = refl
-event_logs c s (DriverDown v) o = leads_nowhere (login_at c s) _ _ (ups_down (login_in c) v (blind c v) s) refl
-event_logs c s (Tick seconds) o =
+event_logs c s (event.DriverTook v n) o = refl
+event_logs c s (event.DriverDown v) o = leads_nowhere (login_at c s) _ _ (ups_down (login_in c) v (blind c v) s) refl
+event_logs c s (event.Tick seconds) o =
     leads_nowhere (login_at c s) _ _
     (blind_tick (login_in c) (blind c) s.max_age s.moment (max seconds s.moment) 0 s.upses) refl
-event_logs c s (Open address) o =
+event_logs c s (event.Open address) o =
     of_opened (λ t. Logs c s [] t) s address (refused_after o) refl
     (λ room. of_pushed (λ x. login x ≡ login_at c s) c (new_session s.next_id address)
     s.sessions refl (λ its none. sym (ap login none)))
-event_logs c s (Feed d piece) o =
+event_logs c s (event.Feed d piece) o =
     let j : ServerState = with_input s d piece in
     after_same c s j (pumped_until j d (refused_after o))
     (notes_of_lines (executions_until j d (refused_after o)))
     (kept_login (joined piece) (λ x. refl) (λ x. refl) c d s) (pump_logs c d j (refused_after o))
-event_logs c s (Took d n) o =
+event_logs c s (event.Took d n) o =
     let j : ServerState = without_output s d n in
     if_done c s (pumped_until j d (refused_after o)) (executions_until j d (refused_after o)) (may_take (session d s) n)
     (after_same c s j (pumped_until j d (refused_after o))
     (notes_of_lines (executions_until j d (refused_after o)))
     (kept_login (taken_from n) (λ x. refl) (λ x. refl) c d s) (pump_logs c d j (refused_after o)))
-event_logs c s (Close d) o =
+event_logs c s (event.Close d) o =
     let t : ServerState = record s { sessions = without d s.sessions } in
     out_logs c d s t (ap login (find_without d s.sessions))
     (λ differ. ap login (find_without_other c d s.sessions differ))
-event_logs c s (Id id) o = refl
+event_logs c s (event.Id id) o = refl

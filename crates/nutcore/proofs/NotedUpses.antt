@@ -18,9 +18,7 @@ use Rattle.nutusers.specs.UpsList.{id_at}
 use Rattle.nutcore.proofs.Common.{slice_get, slice_get-map, option_map, option_map_or, cond_both, same_Some}
 use Rattle.nutcore.proofs.Common.{eqb-true, eqb-false, never_both, UpsId, TrackingState, Event, Outcome, SessionState}
 use Rattle.nutcore.proofs.Common.{UpsState, ServerState, session, ups_at, with_ups_changed, after}
-use Rattle.nutcore.specs.declared.event.Event.TheVariants.{DriverUp, DriverBytes, DriverTook}
-use Rattle.nutcore.specs.declared.event.Event.TheVariants.{DriverDown, Tick, Open, Feed}
-use Rattle.nutcore.specs.declared.event.Event.TheVariants.{Took, Close, Id}
+use Rattle.nutcore.specs.declared.event.Event.TheVariants as event
 use Rattle.nutcore.specs.declared.note.DataState.{DataState}
 use Rattle.nutcore.specs.declared.note.DataState.TheVariants.{Lost, Awaited}
 use Rattle.nutcore.specs.declared.note.Deed.{Deed}
@@ -265,13 +263,13 @@ module _ {A : Type 0} (none : A) (g : ℕ → ℕ → UpsState → A) (u : UpsId
   pub event_says : (s : ServerState) (e : Event) (o : Outcome) → IsSound s →
       Says s (all_notes s e (refused_after o)) (after s e o)
   unfolding after_by
-  event_says s (DriverUp v) o h =
+  event_says s (event.DriverUp v) o h =
       of_driver v s (connected s.moment) [] (connect_notes v)
       (λ x same there. subst (λ (w : UpsId). Leads (g s.max_age s.moment x)
       (filter_map f (connect_notes w x)) (g s.max_age s.moment (connected s.moment x))) (sym same)
       (ups_comes s.max_age s.moment x x.report.connected refl (sound_at s x h there)))
       (λ k. ups_up f v (reads.others v k) s)
-  event_says s (DriverBytes v piece) o h =
+  event_says s (event.DriverBytes v piece) o h =
       let m : Option ℕ = refused_after o in
       subst (λ t. Says s (of_ups_notes v s (bytes_notes s v piece m)) t) (sym (bytes_change v piece m s))
       (of_driver v s (ups_after_bytes s.moment v.place s.tracking piece m) (lines_read v piece m s)
@@ -281,36 +279,36 @@ module _ {A : Type 0} (none : A) (g : ℕ → ℕ → UpsState → A) (u : UpsId
       (g s.max_age s.moment (ups_after_bytes s.moment w.place s.tracking piece m x))) (sym same)
       (ups_reports s piece m x x.report.connected refl))
       (λ k. ups_bytes f v (reads.others v k) s piece m))
-  event_says s (DriverTook v n) o h =
+  event_says s (event.DriverTook v n) o h =
       silent s (with_ups_changed (after_driver_took n) v s) [] refl
       (same_data s (with_ups_changed (after_driver_took n) v s)
       (ap (λ (xs : List UpsState). let t : ServerState =
       record s { sessions = []; upses = xs; tracking = nothing_tracked } in t)
       (masked_at (after_driver_took n) (took_masked n) v.place s.upses)))
-  event_says s (DriverDown v) o h =
+  event_says s (event.DriverDown v) o h =
       of_driver v s disconnected [] (down_notes v)
       (λ x same there. subst (λ (w : UpsId). Leads (g s.max_age s.moment x)
       (filter_map f (down_notes w x)) (g s.max_age s.moment (disconnected x))) (sym same)
       (ups_goes s.max_age s.moment x x.report.connected refl))
       (λ k. ups_down f v (reads.others v k) s)
-  event_says s (Tick seconds) o h = tick_says s seconds
-  event_says s (Open address) o h = of_opened (λ t. Says s [] t) s address (refused_after o) refl (λ room. refl)
-  event_says s (Feed c piece) o h =
+  event_says s (event.Tick seconds) o h = tick_says s seconds
+  event_says s (event.Open address) o h = of_opened (λ t. Says s [] t) s address (refused_after o) refl (λ room. refl)
+  event_says s (event.Feed c piece) o h =
       let t : ServerState = pumped_until (with_input s c piece) c (refused_after o) in
-      let xs : List Execution = executions_by s (Feed c piece) (refused_after o) in
+      let xs : List Execution = executions_by s (event.Feed c piece) (refused_after o) in
       silent s t (notes_of_lines xs) (lines_silent f reads.clients xs)
-      (same_data s t (own s (Feed c piece) (refused_after o) c refl).server)
-  event_says s (Took c n) o h =
+      (same_data s t (own s (event.Feed c piece) (refused_after o) c refl).server)
+  event_says s (event.Took c n) o h =
       let t : ServerState = cond (may_take (session c s) n)
       (pumped_until (without_output s c n) c (refused_after o)) s in
-      let xs : List Execution = executions_by s (Took c n) (refused_after o) in
+      let xs : List Execution = executions_by s (event.Took c n) (refused_after o) in
       silent s t (notes_of_lines xs) (lines_silent f reads.clients xs)
-      (same_data s t (own s (Took c n) (refused_after o) c refl).server)
-  event_says s (Close c) o h =
+      (same_data s t (own s (event.Took c n) (refused_after o) c refl).server)
+  event_says s (event.Close c) o h =
       let t : ServerState = record s { sessions = without c s.sessions } in
       silent s t (cons_option (option_and_then logout_of (session c s)) [])
       (close_silent f reads.clients (session c s)) refl
-  event_says s (Id id) o h = refl
+  event_says s (event.Id id) o h = refl
 
 -- the state of the data
 module _ (u : UpsId) where
@@ -514,7 +512,7 @@ module _ (u : UpsId) where
 
   own_bytes : (s : ServerState) (piece : List ℕ) (o : Outcome) →
       filter_map (fault_in u) (of_ups_notes u s (bytes_notes s u piece (refused_after o))) ≡
-      faults_among (report_of u s) (heard_in_event u s (DriverBytes u piece) o)
+      faults_among (report_of u s) (heard_in_event u s (event.DriverBytes u piece) o)
   own_bytes s piece o = rw (eq-eqb u.place u.place refl) (by_ups (ups_at u.place s))
     where
       m : Option ℕ
@@ -541,22 +539,23 @@ module _ (u : UpsId) where
   pub event_refuses : (s : ServerState) (e : Event) (o : Outcome) →
       filter_map (fault_in u) (all_notes s e (refused_after o)) ≡
       faults_among (report_of u s) (heard_in_event u s e o)
-  event_refuses s (DriverUp v) o =
+  event_refuses s (event.DriverUp v) o =
       no_line v s (connect_notes v) (λ x. cond_both x.report.connected [] (Data v Awaited ∷ [])
       (λ notes. filter_map (fault_in u) notes ≡ []) (λ e. refl) (λ e. refl))
-  event_refuses s (DriverBytes v piece) o = elim (cases_Bool (eqb v.place u.place)) [
+  event_refuses s (event.DriverBytes v piece) o = elim (cases_Bool (eqb v.place u.place)) [
     | inl k ↦ subst (λ (w : UpsId). filter_map (fault_in u)
         (of_ups_notes w s (bytes_notes s w piece (refused_after o))) ≡
-        faults_among (report_of u s) (heard_in_event u s (DriverBytes w piece) o))
+        faults_among (report_of u s) (heard_in_event u s (event.DriverBytes w piece) o))
         (sym (same_ups v u (eqb-true v.place u.place k))) (own_bytes s piece o)
     | inr k ↦ rw k (ups_bytes (fault_in u) v (blind_fault v k) s piece (refused_after o))
   ]
-  event_refuses s (DriverDown v) o =
+  event_refuses s (event.DriverDown v) o =
       no_line v s (down_notes v) (λ x. cond_both x.report.connected (loss_notes v x) []
       (λ notes. filter_map (fault_in u) notes ≡ []) (λ e. no_loss v x) (λ e. refl))
-  event_refuses s (Tick seconds) o = no_tick s.max_age s.moment (max seconds s.moment) 0 s.upses
-  event_refuses s (Feed c piece) o =
-      lines_silent (fault_in u) clients (executions_by s (Feed c piece) (refused_after o))
-  event_refuses s (Took c n) o = lines_silent (fault_in u) clients (executions_by s (Took c n) (refused_after o))
-  event_refuses s (Close c) o = close_silent (fault_in u) clients (session c s)
+  event_refuses s (event.Tick seconds) o = no_tick s.max_age s.moment (max seconds s.moment) 0 s.upses
+  event_refuses s (event.Feed c piece) o =
+      lines_silent (fault_in u) clients (executions_by s (event.Feed c piece) (refused_after o))
+  event_refuses s (event.Took c n) o =
+      lines_silent (fault_in u) clients (executions_by s (event.Took c n) (refused_after o))
+  event_refuses s (event.Close c) o = close_silent (fault_in u) clients (session c s)
   event_refuses s e o = refl

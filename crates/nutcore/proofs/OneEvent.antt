@@ -4,8 +4,7 @@ use Rattle.std.proofs.Common.{None, Result, Err, refl, sym, ap, subst}
 use Rattle.std.proofs.Common.{arith, take, inl, inr, IsErrAnd}
 use Rattle.std.proofs.lemmas.Result.{err_from_is_err_and}
 use Rattle.nutcore.proofs.Common.{Event, Fault, Outcome, ServerState, SessionState, UpsId, session, ups_at, Step}
-use Rattle.nutcore.specs.declared.event.Event.TheVariants.{DriverUp, DriverBytes, DriverTook, DriverDown, Tick, Feed}
-use Rattle.nutcore.specs.declared.event.Event.TheVariants.{Took, Close}
+use Rattle.nutcore.specs.declared.event.Event.TheVariants as event
 use Rattle.nutcore.specs.declared.event.Outcome.TheVariants.{Refused}
 use Rattle.nutcore.specs.declared.event.Fault.TheVariants.{NoSuchUps, NoSuchClient}
 use Rattle.nutcore.specs.declared.note.TheConstants.{NOTE_LIMIT}
@@ -55,17 +54,18 @@ plain_event {old} {v} {new} e {o} plain begins sound cost step notes =
 -- of an event that a harmless fault refuses nothing is noted
 quiet_notes : (s : ServerState) (e : Event) → is_quiet (outcome_of s e) ≡ true → all_notes s e None ≡ []
 unfolding outcome_of executions_by
-quiet_notes s (DriverUp u) h = grind arith
-quiet_notes s (DriverBytes u piece) h = grind arith
-quiet_notes s (DriverDown u) h = grind arith
-quiet_notes s (Tick seconds) h = cc h
-quiet_notes s (Feed c piece) h = fed_nothing s c piece (absent (session c s) _ h)
+quiet_notes s (event.DriverUp u) h = grind arith
+quiet_notes s (event.DriverBytes u piece) h = grind arith
+quiet_notes s (event.DriverDown u) h = grind arith
+quiet_notes s (event.Tick seconds) h = cc h
+quiet_notes s (event.Feed c piece) h = fed_nothing s c piece (absent (session c s) _ h)
   where
     absent : (o : Option SessionState) (overlong : Bool) → is_quiet (fed_by o piece overlong) ≡ true → o ≡ None
     absent o overlong h = grind arith
-quiet_notes s (Took c n) h = rw (may_not (session c s) n (is_overlong (after_all_lines (without_output s c n) c) c) h)
+quiet_notes s (event.Took c n) h =
+    rw (may_not (session c s) n (is_overlong (after_all_lines (without_output s c n) c) c) h)
     refl
-quiet_notes s (Close c) h = grind arith
+quiet_notes s (event.Close c) h = grind arith
 quiet_notes s e h = refl
 
 -- a harmless fault refuses the event
@@ -104,9 +104,9 @@ unfolding outcome_of
 no_client s c e fault (is, none) its = record { is = refuses e its; harmless = ap is_harmless is }
   where
     refuses : (e : Event) → client_of e ≡ Some c → outcome_of s e ≡ Refused fault
-    refuses (Feed d piece) its = grind arith
-    refuses (Took d n) its = grind arith
-    refuses (Close d) its = grind arith
+    refuses (event.Feed d piece) its = grind arith
+    refuses (event.Took d n) its = grind arith
+    refuses (event.Close d) its = grind arith
     refuses e its = cc its
 
 -- a UPS that isn't there, or has no driver
@@ -117,15 +117,15 @@ unfolding outcome_of
 no_ups s u e fault (is, none) its = record { is = refuses e its; harmless = ap is_harmless is }
   where
     refuses : (e : Event) → ups_of e ≡ Some u → outcome_of s e ≡ Refused fault
-    refuses (DriverUp v) its = grind arith
-    refuses (DriverBytes v piece) its = grind arith
-    refuses (DriverTook v n) its = grind arith
-    refuses (DriverDown v) its = grind arith
+    refuses (event.DriverUp v) its = grind arith
+    refuses (event.DriverBytes v piece) its = grind arith
+    refuses (event.DriverTook v n) its = grind arith
+    refuses (event.DriverDown v) its = grind arith
     refuses e its = cc its
 
 -- an event for which a driver has to be connected
 abbrev pub of_driver : Event → Option UpsId
-of_driver (DriverUp u) = None
+of_driver (event.DriverUp u) = None
 of_driver e = ups_of e
 
 pub no_driver : (s : ServerState) (u : UpsId) (e : Event) (fault : Fault) → IsNotConnected u fault s
@@ -137,7 +137,7 @@ no_driver s u e fault h its = record {
 }
   where
     refuses : (e : Event) → of_driver e ≡ Some u → outcome_of s e ≡ Refused fault
-    refuses (DriverBytes v piece) its = grind arith
-    refuses (DriverTook v n) its = grind arith
-    refuses (DriverDown v) its = grind arith
+    refuses (event.DriverBytes v piece) its = grind arith
+    refuses (event.DriverTook v n) its = grind arith
+    refuses (event.DriverDown v) its = grind arith
     refuses e its = cc its

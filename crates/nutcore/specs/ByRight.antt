@@ -13,9 +13,7 @@ use Rattle.nutusers.specs.declared.rights.Right.{Right}
 use Rattle.nutusers.specs.declared.rights.Right.TheVariants as rights
 use Rattle.nutusers.specs.declared.ups_list.UpsId.{UpsId}
 use Rattle.nutcommand.specs.declared.command.Command.{Command}
-use Rattle.nutcommand.specs.declared.command.Command.TheVariants.{Username, Password, Login, Fsd}
-use Rattle.nutcommand.specs.declared.command.Command.TheVariants.{GetNumLogins, GetNumAttach}
-use Rattle.nutcommand.specs.declared.command.Command.TheVariants.{ListClient}
+use Rattle.nutcommand.specs.declared.command.Command.TheVariants as commands
 use Rattle.nutcommand.specs.Command.{read_command}
 use Rattle.nutanswer.specs.Checks.{KnownUps, ups_named}
 use Rattle.nutanswer.specs.View.{is_logged_in as is_logged_in_as_seen}
@@ -51,13 +49,13 @@ pub record IsByRight (s : ServerState) (c : ℕ) (line : List ℕ) (of_ups : Opt
 -- It sets the forced shutdown of this UPS by right: `FSD u`, answered `OK FSD-SET`.
 abbrev pub SetsShutdownByRight : UpsId → Execution → Type 0
 SetsShutdownByRight u (of_line s c line) =
-    IsByRight s c line Fsd rights.Fsd (codes "OK" ∷ codes "FSD-SET" ∷ []) u
+    IsByRight s c line commands.Fsd rights.Fsd (codes "OK" ∷ codes "FSD-SET" ∷ []) u
 SetsShutdownByRight u (of_notice s c) = ⊥
 
 -- It logs this client in to this UPS by right: its `LOGIN u`, answered `OK`.
 abbrev pub LogsInByRight : ℕ → UpsId → Execution → Type 0
 LogsInByRight c u (of_line s d line) =
-    (d ≡ c) × IsByRight s d line Login rights.Login (codes "OK" ∷ []) u
+    (d ≡ c) × IsByRight s d line commands.Login rights.Login (codes "OK" ∷ []) u
 LogsInByRight c u (of_notice s d) = ⊥
 
 -- The forced shutdown of the UPS is set.
@@ -105,14 +103,14 @@ ALoginIsByRight =
 -- This line of the client gives this user name: `USERNAME name`, answered `OK`.
 abbrev pub GivesUsername : ℕ → List ℕ → Execution → Type 0
 GivesUsername c name (of_line s d line) =
-    (d ≡ c) × (read_command line ≡ Ok (Some (Username (Some name))))
+    (d ≡ c) × (read_command line ≡ Ok (Some (commands.Username (Some name))))
     × (reply s d line ≡ text_line (codes "OK" ∷ []))
 GivesUsername c name (of_notice s d) = ⊥
 
 -- The same of a password.
 abbrev pub GivesPassword : ℕ → List ℕ → Execution → Type 0
 GivesPassword c password (of_line s d line) =
-    (d ≡ c) × (read_command line ≡ Ok (Some (Password (Some password))))
+    (d ≡ c) × (read_command line ≡ Ok (Some (commands.Password (Some password))))
     × (reply s d line ≡ text_line (codes "OK" ∷ []))
 GivesPassword c password (of_notice s d) = ⊥
 
@@ -151,10 +149,11 @@ AnswersHowManyAreLoggedIn command word =
 -- sessions that are logged in to the UPS, and `LIST CLIENT` lists exactly these, by their
 -- addresses.
 pub record WhatIsCountedIsWhoIsThere : Type 0 where
-  pub counted : AnswersHowManyAreLoggedIn (λ ups. GetNumLogins ups) (codes "NUMLOGINS")
-  pub attached : AnswersHowManyAreLoggedIn (λ ups. GetNumAttach ups) (codes "NUMATTACH")
+  pub counted : AnswersHowManyAreLoggedIn (λ ups. commands.GetNumLogins ups) (codes "NUMLOGINS")
+  pub attached : AnswersHowManyAreLoggedIn (λ ups. commands.GetNumAttach ups) (codes "NUMATTACH")
   pub listed : (s : ServerState) (c : ℕ) (line : List ℕ) (ups : Option (List ℕ)) (known : KnownUps)
-      → read_command line ≡ Ok (Some (ListClient ups)) → ups_named (seen s) ups ≡ Some known
+      → read_command line ≡ Ok (Some (commands.ListClient ups)) → ups_named (seen s) ups ≡
+      Some known
       → reply s c line
       ≡ frame (codes "CLIENT") (known.name ∷ [])
       (map (λ x. client_item known.name x.address) (logged_in known.id s))

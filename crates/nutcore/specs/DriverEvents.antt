@@ -5,9 +5,7 @@ use Rattle.std.specs.Option.{option_map_or}
 use Rattle.nutusers.specs.declared.ups_list.UpsId.{UpsId}
 use Rattle.nutcore.specs.declared.event.Outcome.{Outcome}
 use Rattle.nutcore.specs.declared.event.Outcome.TheVariants.{Done, Refused}
-use Rattle.nutcore.specs.declared.event.Fault.TheVariants.{NoSuchUps, TookTooMuch, NotConnected}
-use Rattle.nutcore.specs.declared.event.Fault.TheVariants.{AlreadyConnected, LineTooLong, KnownId}
-use Rattle.nutcore.specs.declared.event.Fault.TheVariants.{TooManyIds}
+use Rattle.nutcore.specs.declared.event.Fault.TheVariants as faults
 use Rattle.nuttracking.specs.declared.tracking.IdFault.{IdFault}
 use Rattle.nuttracking.specs.declared.tracking.IdFault.TheVariants.{Known, TooMany}
 use Rattle.nuttracking.specs.Tracking.{with_id}
@@ -56,31 +54,34 @@ abbrev pub handed_in : ℕ → ServerState → ServerState
 handed_in id s = with_tracking (with_id id s.tracking) s
 
 abbrev pub connected_by : Option UpsState → Outcome
-connected_by None = Refused NoSuchUps
-connected_by (Some x) = if x.report.connected then Refused AlreadyConnected else Done
+connected_by None = Refused faults.NoSuchUps
+connected_by (Some x) = if x.report.connected then Refused faults.AlreadyConnected else Done
 
 abbrev pub driver_text_outcome : List ℕ → Outcome
-driver_text_outcome text = if is_too_long (unfinished_after text) then Refused LineTooLong else Done
+driver_text_outcome text = if is_too_long (unfinished_after text) then Refused faults.LineTooLong
+    else Done
 
 abbrev pub driver_bytes_by : List ℕ → Option UpsState → Outcome
-driver_bytes_by piece None = Refused NoSuchUps
+driver_bytes_by piece None = Refused faults.NoSuchUps
 driver_bytes_by piece (Some x) =
-    if x.report.connected then driver_text_outcome (x.unfinished ++ piece) else Refused NotConnected
+    if x.report.connected then driver_text_outcome (x.unfinished ++ piece) else Refused
+    faults.NotConnected
 
 abbrev pub driver_took_by : ℕ → Option UpsState → Outcome
-driver_took_by n None = Refused NoSuchUps
+driver_took_by n None = Refused faults.NoSuchUps
 driver_took_by n (Some x) =
-    if not x.report.connected then Refused NotConnected else if nat_le n (length x.owed) then Done
-    else Refused TookTooMuch
+    if not x.report.connected then Refused faults.NotConnected else if nat_le n (length x.owed)
+    then Done
+    else Refused faults.TookTooMuch
 
 abbrev pub disconnected_by : Option UpsState → Outcome
-disconnected_by None = Refused NoSuchUps
-disconnected_by (Some x) = if x.report.connected then Done else Refused NotConnected
+disconnected_by None = Refused faults.NoSuchUps
+disconnected_by (Some x) = if x.report.connected then Done else Refused faults.NotConnected
 
 abbrev pub id_outcome : Option IdFault → Outcome
 id_outcome None = Done
-id_outcome (Some Known) = Refused KnownId
-id_outcome (Some TooMany) = Refused TooManyIds
+id_outcome (Some Known) = Refused faults.KnownId
+id_outcome (Some TooMany) = Refused faults.TooManyIds
 
 -- A driver is connected, and of what it reported the line after the first k wants memory.
 abbrev pub driver_may_lack_memory : UpsId → List ℕ → ℕ → ServerState → Bool

@@ -5,8 +5,7 @@ use Rattle.nuttracking.specs.declared.order.Progress.TheVariants.{Pending}
 use Rattle.nuttracking.specs.declared.order.TrackedOrder.{TrackedOrder}
 use Rattle.nutusers.specs.declared.ups_list.UpsId.{UpsId}
 use Rattle.nutcore.specs.declared.event.Event.{Event}
-use Rattle.nutcore.specs.declared.event.Event.TheVariants.{DriverUp, DriverBytes, DriverTook}
-use Rattle.nutcore.specs.declared.event.Event.TheVariants.{DriverDown, Feed, Took, Close}
+use Rattle.nutcore.specs.declared.event.Event.TheVariants as events
 use Rattle.nutcore.specs.declared.event.Outcome.{Outcome}
 use Rattle.nutcore.specs.declared.event.Outcome.TheVariants.{Refused}
 use Rattle.nutcore.specs.declared.event.Fault.{Fault}
@@ -20,17 +19,17 @@ use Rattle.nutcore.specs.Step.{Step}
 
 -- The client whose event it is.
 abbrev pub client_of : Event → Option ℕ
-client_of (Feed c piece) = Some c
-client_of (Took c n) = Some c
-client_of (Close c) = Some c
+client_of (events.Feed c piece) = Some c
+client_of (events.Took c n) = Some c
+client_of (events.Close c) = Some c
 client_of _ = None
 
 -- The UPS whose driver's event it is.
 abbrev pub ups_of : Event → Option UpsId
-ups_of (DriverUp u) = Some u
-ups_of (DriverBytes u piece) = Some u
-ups_of (DriverTook u n) = Some u
-ups_of (DriverDown u) = Some u
+ups_of (events.DriverUp u) = Some u
+ups_of (events.DriverBytes u piece) = Some u
+ups_of (events.DriverTook u n) = Some u
+ups_of (events.DriverDown u) = Some u
 ups_of _ = None
 
 -- A UPS except for what commands change of it: its forced shutdown, and what its driver is owed.

@@ -1,10 +1,7 @@
 -- The limits, and the numbers of refused events.
 use Rattle.std.specs.Prelude.{ℕ, ◌≡◌, Option, Some, None, nat_le, ◌&&◌, if◌then◌else◌}
 use Rattle.nutcore.specs.declared.event.Fault.{Fault}
-use Rattle.nutcore.specs.declared.event.Fault.TheVariants.{NoSuchUps, NoSuchClient, TooManyClients}
-use Rattle.nutcore.specs.declared.event.Fault.TheVariants.{TookTooMuch, NotConnected}
-use Rattle.nutcore.specs.declared.event.Fault.TheVariants.{AlreadyConnected, LineTooLong, Memory}
-use Rattle.nutcore.specs.declared.event.Fault.TheVariants.{KnownId, TooManyIds}
+use Rattle.nutcore.specs.declared.event.Fault.TheVariants as faults
 use Rattle.nutcore.specs.declared.TheConstants.{HELD_LIMIT, DRIVER_OWED_LIMIT}
 use Rattle.nutlisting.specs.declared.outbox.TheConstants.{OWED_LIMIT}
 use Rattle.nutlisting.specs.declared.outbox.TheConstants.{QUEUE_LIMIT}
@@ -23,16 +20,16 @@ read_max_age seconds =
 -- offered, 5 not connected, 6 connected already, 7 a line too long, 8 no memory, 9 an id that
 -- is known, 10 too many ids.
 abbrev pub number_of_fault : Fault → ℕ
-number_of_fault NoSuchUps = 1
-number_of_fault NoSuchClient = 2
-number_of_fault TooManyClients = 3
-number_of_fault TookTooMuch = 4
-number_of_fault NotConnected = 5
-number_of_fault AlreadyConnected = 6
-number_of_fault LineTooLong = 7
-number_of_fault (Memory k) = 8
-number_of_fault KnownId = 9
-number_of_fault TooManyIds = 10
+number_of_fault faults.NoSuchUps = 1
+number_of_fault faults.NoSuchClient = 2
+number_of_fault faults.TooManyClients = 3
+number_of_fault faults.TookTooMuch = 4
+number_of_fault faults.NotConnected = 5
+number_of_fault faults.AlreadyConnected = 6
+number_of_fault faults.LineTooLong = 7
+number_of_fault (faults.Memory k) = 8
+number_of_fault faults.KnownId = 9
+number_of_fault faults.TooManyIds = 10
 
 pub record Limits : Type 0 where
   pub held : HELD_LIMIT ≡ 2048

@@ -9,8 +9,7 @@ use Rattle.nutcore.specs.declared.event.Outcome.{Outcome}
 use Rattle.nutcore.specs.declared.note.DataState.{DataState}
 use Rattle.nutcore.specs.declared.note.DataState.TheVariants.{Lost}
 use Rattle.nutcore.specs.declared.note.Note.{Note}
-use Rattle.nutcore.specs.declared.note.Note.TheVariants.{Data, StatusChanged, LineRefused}
-use Rattle.nutcore.specs.declared.note.Note.TheVariants.{LoggedIn, LoggedOut, Did}
+use Rattle.nutcore.specs.declared.note.Note.TheVariants as notes
 use Rattle.nutcore.specs.Server.{ServerState, session}
 use Rattle.nutcore.specs.Parts.{ups_at}
 use Rattle.nutcore.specs.Step.{after}
@@ -43,7 +42,7 @@ data_at u s = option_map_or (data_state_of s.max_age s.moment) (ups_at u.place s
 
 -- What a note says of them.
 abbrev pub data_in : UpsId → Note → Option DataState
-data_in u (Data v state) = if v.place == u.place then Some state else None
+data_in u (notes.Data v state) = if v.place == u.place then Some state else None
 data_in u _ = None
 
 -- Its status, none where its driver has reported none,
@@ -52,7 +51,7 @@ status_at u s = option_map_or status_of (ups_at u.place s) None
 
 -- and what a note says of it.
 abbrev pub status_in : UpsId → Note → Option (Option (List ℕ))
-status_in u (StatusChanged v status) = if v.place == u.place then Some status else None
+status_in u (notes.StatusChanged v status) = if v.place == u.place then Some status else None
 status_in u _ = None
 
 -- For what the lines of its driver were refused that a run executed, in their order,
@@ -72,7 +71,7 @@ faults_along u s (e ∷ es) (o ∷ os) =
 
 -- and what a note says of one.
 abbrev pub fault_in : UpsId → Note → Option (Option DriverFault)
-fault_in u (LineRefused v fault) = if v.place == u.place then Some fault else None
+fault_in u (notes.LineRefused v fault) = if v.place == u.place then Some fault else None
 fault_in u _ = None
 
 -- The UPS to which a client is logged in.
@@ -81,14 +80,14 @@ login_at c s = option_and_then (λ x. x.login) (session c s)
 
 -- What a note says of it.
 abbrev pub login_in : ℕ → Note → Option (Option UpsId)
-login_in c (LoggedIn u who) = if who.client == c then Some (Some u) else None
-login_in c (LoggedOut u who) = if who.client == c then Some None else None
+login_in c (notes.LoggedIn u who) = if who.client == c then Some (Some u) else None
+login_in c (notes.LoggedOut u who) = if who.client == c then Some None else None
 login_in c _ = None
 
 -- What it says of an executed line: a login, another command, or a refusal.
 abbrev pub deed_in : Note → Option Note
-deed_in (LoggedIn u who) = Some (LoggedIn u who)
-deed_in (Did deed) = Some (Did deed)
+deed_in (notes.LoggedIn u who) = Some (notes.LoggedIn u who)
+deed_in (notes.Did deed) = Some (notes.Did deed)
 deed_in _ = None
 
 -- Over any run, by all that is noted, where drivers' bytes are as many as the loop reads at once.

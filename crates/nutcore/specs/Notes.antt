@@ -8,16 +8,14 @@ use Rattle.std.specs.Str.{bytes_eq}
 use Rattle.nutdriver.specs.LastLine.{value_of}
 use Rattle.nutusers.specs.declared.ups_list.UpsId.{UpsId}
 use Rattle.nutcommand.specs.declared.command.Command.{Command}
-use Rattle.nutcommand.specs.declared.command.Command.TheVariants.{Login, Primary, Fsd, SetVar}
-use Rattle.nutcommand.specs.declared.command.Command.TheVariants.{InstCmd}
+use Rattle.nutcommand.specs.declared.command.Command.TheVariants as commands
 use Rattle.nutcommand.specs.declared.err_word.ErrWord.{ErrWord}
 use Rattle.nutanswer.specs.declared.reply.Change.{Change}
 use Rattle.nutanswer.specs.declared.reply.Change.TheVariants as changes
 use Rattle.nutcommand.specs.Command.{read_command}
 use Rattle.nutcore.specs.declared.note.Note.{Note}
 use Rattle.nutcore.specs.declared.note.Note.TheVariants.{Data, StatusChanged, LineRefused}
-use Rattle.nutcore.specs.declared.note.Note.TheVariants.{LoggedIn, LoggedOut, Did}
-use Rattle.nutcore.specs.declared.note.DataState.{DataState}
+use Rattle.nutcore.specs.declared.note.Note.TheVariants as note_kinds
 use Rattle.nutcore.specs.declared.note.DataState.TheVariants as states
 use Rattle.nutcore.specs.declared.note.Who.{Who}
 use Rattle.nutcore.specs.declared.note.Verb.{Verb}
@@ -27,8 +25,7 @@ use Rattle.nutcore.specs.declared.note.TheConstants.{NOTE_LIMIT}
 use Rattle.nutcore.specs.declared.event.Event.{Event}
 use Rattle.nutcore.specs.declared.event.Event.TheVariants.{DriverUp, DriverBytes, DriverDown, Tick}
 use Rattle.nutcore.specs.declared.event.Event.TheVariants.{Feed, Took, Close}
-use Rattle.nutcore.specs.declared.event.Outcome.{Outcome}
-use Rattle.nutanswer.specs.View.{Readiness, not_connected, stale, usable, readiness}
+use Rattle.nutcore.specs.declared.event.Event.TheVariants as event
 use Rattle.nutusers.specs.UpsList.{id_at}
 use Rattle.nutcore.specs.Ups.{UpsState, is_refused, after_text, after_texts, as_far}
 use Rattle.nutcore.specs.Reports.{with_end, is_unawaited}
@@ -52,26 +49,35 @@ who_of x = record { client = x.id; user = x.username; address = x.address }
 
 -- The logout of a session that is logged in.
 abbrev pub logout_of : SessionState → Option Note
-logout_of x = option_map (λ u. LoggedOut u (who_of x)) x.login
+logout_of x = option_map (λ u. note_kinds.LoggedOut u (who_of x)) x.login
 
 -- What the session did by a command that was refused by this word, or granted,
 abbrev pub did : SessionState → Option ErrWord → Verb → Option (List ℕ) → Option (List ℕ)
     → Option Note
 did x refusal verb ups name =
-    Some (Did (record { who = who_of x; verb = verb; ups = ups; name = name; refusal = refusal }))
+    Some
+    (note_kinds.Did (record {
+      who = who_of x;
+      verb = verb;
+      ups = ups;
+      name = name;
+      refusal =
+          refusal;
+    }))
 
 -- where its line was read as a command of which that is noted.
 abbrev pub deed_of : SessionState → Option ErrWord → Result (Option Command) ErrWord → Option Note
-deed_of x refusal (Ok (Some (Login ups))) = did x refusal verbs.Login ups None
-deed_of x refusal (Ok (Some (Primary ups))) = did x refusal verbs.Primary ups None
-deed_of x refusal (Ok (Some (Fsd ups))) = did x refusal verbs.Fsd ups None
-deed_of x refusal (Ok (Some (SetVar ups name value))) = did x refusal verbs.SetVar ups name
-deed_of x refusal (Ok (Some (InstCmd ups name value))) = did x refusal verbs.InstCmd ups name
+deed_of x refusal (Ok (Some (commands.Login ups))) = did x refusal verbs.Login ups None
+deed_of x refusal (Ok (Some (commands.Primary ups))) = did x refusal verbs.Primary ups None
+deed_of x refusal (Ok (Some (commands.Fsd ups))) = did x refusal verbs.Fsd ups None
+deed_of x refusal (Ok (Some (commands.SetVar ups name value))) = did x refusal verbs.SetVar ups name
+deed_of x refusal (Ok (Some (commands.InstCmd ups name value))) =
+    did x refusal verbs.InstCmd ups name
 deed_of x refusal _ = None
 
 -- What is noted of a change that the session makes, by a line that was read so,
 abbrev pub note_of_change : SessionState → Result (Option Command) ErrWord → Change → Option Note
-note_of_change x read (changes.Login u) = Some (LoggedIn u (who_of x))
+note_of_change x read (changes.Login u) = Some (note_kinds.LoggedIn u (who_of x))
 note_of_change x read changes.Ending = logout_of x
 note_of_change x read (changes.Fsd u) = deed_of x None read
 note_of_change x read (changes.Order u line) = deed_of x None read
@@ -116,14 +122,14 @@ data_note u states.Lost states.Lost = None
 data_note u states.Awaited states.Awaited = None
 data_note u states.Good states.Good = None
 data_note u states.Stale states.Stale = None
-data_note u was is = Some (Data u is)
+data_note u was is = Some (note_kinds.Data u is)
 
 -- another status, or none any more,
 abbrev pub status_note : UpsId → Option (List ℕ) → Option (List ℕ) → Option Note
 status_note u None None = None
 status_note u (Some was) (Some is) =
-    if bytes_eq was is then None else Some (StatusChanged u (Some is))
-status_note u _ is = Some (StatusChanged u is)
+    if bytes_eq was is then None else Some (note_kinds.StatusChanged u (Some is))
+status_note u _ is = Some (note_kinds.StatusChanged u is)
 
 -- and that a line of its driver is refused, for what: nothing where it reports on an order that
 -- isn't awaited.
@@ -133,7 +139,8 @@ fault_of _ = None
 
 abbrev pub refusal_note : UpsId → Bool → LineOutcome → Option Note
 refusal_note u unawaited outcome =
-    if is_refused unawaited outcome then Some (LineRefused u (fault_of outcome)) else None
+    if is_refused unawaited outcome then Some (note_kinds.LineRefused u (fault_of outcome))
+    else None
 
 -- What is noted of a whole line of its driver.
 abbrev pub line_notes : ℕ → ℕ → UpsId → Bool → UpsState → List ℕ → List Note
@@ -155,7 +162,7 @@ texts_notes max_age moment u t (line ∷ lines) x =
 
 -- Its driver is lost, and with it the status that it reported.
 abbrev pub loss_notes : UpsId → UpsState → List Note
-loss_notes u x = Data u states.Lost ∷ cons_option (status_note u (status_of x) None) []
+loss_notes u x = note_kinds.Data u states.Lost ∷ cons_option (status_note u (status_of x) None) []
 
 -- It is lost by what it reported where a line is too long, or memory is refused.
 abbrev pub is_lost_by : List ℕ → Option ℕ → Bool
@@ -171,7 +178,7 @@ text_notes max_age moment u t text m x =
 
 -- What is noted of an event of its driver: it connects, reports, or is lost.
 abbrev pub connect_notes : UpsId → UpsState → List Note
-connect_notes u x = if x.report.connected then [] else Data u states.Awaited ∷ []
+connect_notes u x = if x.report.connected then [] else note_kinds.Data u states.Awaited ∷ []
 
 abbrev pub bytes_notes : ServerState → UpsId → List ℕ → Option ℕ → UpsState → List Note
 bytes_notes s u piece m x =
@@ -197,13 +204,13 @@ tick_notes max_age was now place (x ∷ xs) =
 
 -- All that is noted of an event, in its order.
 abbrev pub all_notes : ServerState → Event → Option ℕ → List Note
-all_notes s (DriverUp u) m = of_ups_notes u s (connect_notes u)
-all_notes s (DriverBytes u piece) m = of_ups_notes u s (bytes_notes s u piece m)
-all_notes s (DriverDown u) m = of_ups_notes u s (down_notes u)
-all_notes s (Tick seconds) m = tick_notes s.max_age s.moment (max seconds s.moment) 0 s.upses
-all_notes s (Feed c piece) m = notes_of_lines (executions_by s (Feed c piece) m)
-all_notes s (Took c n) m = notes_of_lines (executions_by s (Took c n) m)
-all_notes s (Close c) m = cons_option (option_and_then logout_of (session c s)) []
+all_notes s (event.DriverUp u) m = of_ups_notes u s (connect_notes u)
+all_notes s (event.DriverBytes u piece) m = of_ups_notes u s (bytes_notes s u piece m)
+all_notes s (event.DriverDown u) m = of_ups_notes u s (down_notes u)
+all_notes s (event.Tick seconds) m = tick_notes s.max_age s.moment (max seconds s.moment) 0 s.upses
+all_notes s (event.Feed c piece) m = notes_of_lines (executions_by s (event.Feed c piece) m)
+all_notes s (event.Took c n) m = notes_of_lines (executions_by s (event.Took c n) m)
+all_notes s (event.Close c) m = cons_option (option_and_then logout_of (session c s)) []
 all_notes s _ m = []
 
 -- As many of them as there is room for.
@@ -212,7 +219,7 @@ notes_of s e outcome = take NOTE_LIMIT (all_notes s e (refused_after outcome))
 
 -- A driver's bytes are as many as the loop reads at once.
 abbrev pub IsReadAtOnce : Event → Type 0
-IsReadAtOnce (DriverBytes u piece) = length piece ≤ DRIVER_READ_LIMIT
+IsReadAtOnce (event.DriverBytes u piece) = length piece ≤ DRIVER_READ_LIMIT
 IsReadAtOnce _ = Unit {0}
 
 -- There is room for all that is noted of such an event.

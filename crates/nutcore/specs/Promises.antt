@@ -5,9 +5,7 @@ use Rattle.std.specs.Prelude.{List, [], Option, Some, None, Result, Ok, Err, IsT
 use Rattle.std.specs.Prelude.{take, map, slice_get}
 use Rattle.std.specs.List.{position_or_len}
 use Rattle.nutcore.specs.declared.event.Fault.{Fault}
-use Rattle.nutcore.specs.declared.event.Fault.TheVariants.{NoSuchUps}
-use Rattle.nutcore.specs.declared.event.Fault.TheVariants.{TookTooMuch, NotConnected}
-use Rattle.nutcore.specs.declared.event.Fault.TheVariants.{LineTooLong, Memory}
+use Rattle.nutcore.specs.declared.event.Fault.TheVariants as faults
 use Rattle.std.specs.declared.alloc.AllocError.{AllocError}
 use Rattle.nutanswer.specs.declared.reply.Reply.{Reply}
 use Rattle.nutanswer.specs.declared.reply.Reply.TheVariants.{Refused, One, Many, Clients}
@@ -100,9 +98,9 @@ pub record LacksMemory (moment : ℕ) (line : List ℕ) (old : UpsState) (orders
 abbrev pub IsAnswered : ℕ → ℕ → TrackingState → List ℕ → UpsState → Result (Unit {0}) Fault
     → Type 0
 IsAnswered moment place orders text x (Ok t) = is_too_long (unfinished_after text) ≡ false
-IsAnswered moment place orders text x (Err LineTooLong) =
+IsAnswered moment place orders text x (Err faults.LineTooLong) =
     is_too_long (unfinished_after text) ≡ true
-IsAnswered moment place orders text x (Err (Memory k)) =
+IsAnswered moment place orders text x (Err (faults.Memory k)) =
     wants_memory_at moment place orders text k x ≡ true
 IsAnswered moment place orders text x (Err fault) = ⊥
 
@@ -123,7 +121,7 @@ pub record Reports (max_age moment : ℕ) (u : UpsId) (text : List ℕ) (old : U
 -- changed.
 abbrev pub IsTaken : ℕ → UpsState → Result (Unit {0}) Fault → UpsState → Type 0
 IsTaken n old (Ok u) new = (n ≤ length old.owed) × (new ≡ record old { owed = drop n old.owed })
-IsTaken n old (Err fault) new = (fault ≡ TookTooMuch) × (length old.owed < n) × (new ≡ old)
+IsTaken n old (Err fault) new = (fault ≡ faults.TookTooMuch) × (length old.owed < n) × (new ≡ old)
 
 -- where the session of this id is
 abbrev pub place : ℕ → List SessionState → ℕ
@@ -136,9 +134,9 @@ pub record IsAt (c i : ℕ) (xs : List SessionState) : Type 0 where
 -- what the pump answers, and leaves
 abbrev pub PumpGives : ServerState → ℕ → Result (Unit {0}) Fault → ServerState → Type 0
 PumpGives old c (Ok u) new = (is_overlong (after_all_lines old c) c ≡ false) × (new ≡ pumped old c)
-PumpGives old c (Err LineTooLong) new =
+PumpGives old c (Err faults.LineTooLong) new =
     (is_overlong (after_all_lines old c) c ≡ true) × (new ≡ pumped old c)
-PumpGives old c (Err (Memory k)) new =
+PumpGives old c (Err (faults.Memory k)) new =
     IsTrue (wants_memory (after_lines k old c) c) × (new ≡ after_lines k old c)
 PumpGives old c (Err fault) new = ⊥
 
@@ -225,8 +223,8 @@ AnswersEach view who read result =
 -- an event of a UPS's driver is refused so: there is no such UPS, or no driver is connected to it
 abbrev pub IsNotConnected : UpsId → Fault → ServerState → Type 0
 IsNotConnected u fault s =
-    ((fault ≡ NoSuchUps) × (ups_at u.place s ≡ None))
-    ⊎ ((fault ≡ NotConnected) × (option_map is_connected (ups_at u.place s) ≡ Some false))
+    ((fault ≡ faults.NoSuchUps) × (ups_at u.place s ≡ None))
+    ⊎ ((fault ≡ faults.NotConnected) × (option_map is_connected (ups_at u.place s) ≡ Some false))
 
 -- of the UPS, which is there
 abbrev pub OfUps : UpsId → ServerState → (UpsState → Type 0) → Type 0

@@ -7,8 +7,7 @@ use Rattle.nutcommand.specs.declared.err_word.ErrWord.TheVariants.{TooLong}
 use Rattle.nutcommand.specs.ErrWord.{error_line}
 use Rattle.nutcommand.specs.Command.{read_command}
 use Rattle.nutanswer.specs.declared.reply.Change.{Change}
-use Rattle.nutanswer.specs.declared.reply.Change.TheVariants.{Nothing, Username, Password, Login}
-use Rattle.nutanswer.specs.declared.reply.Change.TheVariants.{Ending, Fsd, Order, Tracking, Tracked}
+use Rattle.nutanswer.specs.declared.reply.Change.TheVariants as changes
 use Rattle.nuttracking.specs.Tracking.{TrackingState, with_order as with_tracked_order}
 use Rattle.nutanswer.specs.View.{Seen, UpsSeen, ClientSeen, AskerSeen}
 use Rattle.nutanswer.specs.Answer.{answer_to, text_of_answer, change_of_answer, shares_version}
@@ -54,23 +53,23 @@ asker c s = asker_of (session c s)
 
 -- What a change does to the session that asks,
 abbrev pub changed_session : Change → SessionState → SessionState
-changed_session (Username name) x = record x { username = Some name }
-changed_session (Password password) x = record x { password = Some password }
-changed_session (Login u) x = record x { login = Some u }
-changed_session Ending x = begin_ending x
-changed_session (Tracking on) x = record x { tracking = on }
+changed_session (changes.Username name) x = record x { username = Some name }
+changed_session (changes.Password password) x = record x { password = Some password }
+changed_session (changes.Login u) x = record x { login = Some u }
+changed_session changes.Ending x = begin_ending x
+changed_session (changes.Tracking on) x = record x { tracking = on }
 changed_session _ x = x
 
 -- to the UPSs,
 abbrev pub changed_upses : Change → List UpsState → List UpsState
-changed_upses (Fsd u) upses = changed_at with_fsd u.place upses
-changed_upses (Order u line) upses = changed_at (with_order line.items) u.place upses
-changed_upses (Tracked u id line) upses = changed_at (with_order line.items) u.place upses
+changed_upses (changes.Fsd u) upses = changed_at with_fsd u.place upses
+changed_upses (changes.Order u line) upses = changed_at (with_order line.items) u.place upses
+changed_upses (changes.Tracked u id line) upses = changed_at (with_order line.items) u.place upses
 changed_upses _ upses = upses
 
 -- to the available ids and the tracked orders,
 abbrev pub changed_tracking : Change → TrackingState → TrackingState
-changed_tracking (Tracked u id line) t = with_tracked_order u.place t
+changed_tracking (changes.Tracked u id line) t = with_tracked_order u.place t
 changed_tracking _ t = t
 
 -- and so to the server.
@@ -96,8 +95,8 @@ refusal_by s c (Ok (Some command)) = result_err (answer_to (seen s) (asker c s) 
 
 -- What changes by it: nothing where a line doesn't read as a command, has no words, or is refused.
 abbrev pub change_by : ServerState → ℕ → Result (Option Command) ErrWord → Change
-change_by s c (Err word) = Nothing
-change_by s c (Ok None) = Nothing
+change_by s c (Err word) = changes.Nothing
+change_by s c (Ok None) = changes.Nothing
 change_by s c (Ok (Some command)) = change_of_answer (answer_to (seen s) (asker c s) command)
 
 -- The reply to a line of the client c: the whole text that answers it.

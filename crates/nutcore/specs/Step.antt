@@ -6,15 +6,12 @@ use Rattle.nutcore.specs.declared.TheConstants.{HELD_LIMIT}
 use Rattle.nutlisting.specs.declared.outbox.TheConstants.{QUEUE_LIMIT}
 use Rattle.nutusers.specs.declared.limits.TheConstants.{SESSION_LIMIT}
 use Rattle.nutcore.specs.declared.event.Event.{Event}
-use Rattle.nutcore.specs.declared.event.Event.TheVariants.{DriverUp, DriverBytes, DriverTook}
-use Rattle.nutcore.specs.declared.event.Event.TheVariants.{DriverDown, Tick, Open, Feed, Took}
-use Rattle.nutcore.specs.declared.event.Event.TheVariants.{Close, Id}
+use Rattle.nutcore.specs.declared.event.Event.TheVariants as events
 use Rattle.nutcore.specs.declared.event.Outcome.{Outcome}
 use Rattle.nutcore.specs.declared.event.Outcome.TheVariants.{Done, Fed, Opened, Refused}
 use Rattle.nutcore.specs.declared.event.Fault.TheVariants.{NoSuchClient, TooManyClients}
 use Rattle.nutcore.specs.declared.event.Fault.TheVariants.{TookTooMuch, LineTooLong, Memory}
-use Rattle.nuttracking.specs.Tracking.{id_fault}
-use Rattle.nutcore.specs.Session.{SessionState, new_session, without}
+use Rattle.nutcore.specs.declared.event.Fault.TheVariants as faults
 use Rattle.nutcore.specs.Server.{ServerState, session, with_session_changed}
 use Rattle.nutcore.specs.Parts.{ups_at, with_ups_changed}
 use Rattle.nutcore.specs.Pump.{pumped, after_all_lines, after_lines, is_overlong, wants_memory}
@@ -75,7 +72,7 @@ opened s address (Some k) = s
 
 -- After how many lines of the event memory was refused, if it was.
 abbrev pub refused_after : Outcome → Option ℕ
-refused_after (Refused (Memory k)) = Some k
+refused_after (Refused (faults.Memory k)) = Some k
 refused_after _ = None
 
 -- The pump, as far as memory lets it.
@@ -85,17 +82,17 @@ pumped_until s c (Some k) = after_lines k s c
 
 -- What an event leaves, where memory was there or was refused after k lines.
 unfoldable pub after_by : ServerState → Event → Option ℕ → ServerState
-after_by s (DriverUp u) m = with_ups_changed (connected s.moment) u s
-after_by s (DriverBytes u piece) m = after_driver_bytes u piece m s
-after_by s (DriverTook u n) m = with_ups_changed (after_driver_took n) u s
-after_by s (DriverDown u) m = with_ups_changed disconnected u s
-after_by s (Tick seconds) m = ticked seconds s
-after_by s (Open address) m = opened s address m
-after_by s (Feed c piece) m = pumped_until (with_input s c piece) c m
-after_by s (Took c n) m =
+after_by s (events.DriverUp u) m = with_ups_changed (connected s.moment) u s
+after_by s (events.DriverBytes u piece) m = after_driver_bytes u piece m s
+after_by s (events.DriverTook u n) m = with_ups_changed (after_driver_took n) u s
+after_by s (events.DriverDown u) m = with_ups_changed disconnected u s
+after_by s (events.Tick seconds) m = ticked seconds s
+after_by s (events.Open address) m = opened s address m
+after_by s (events.Feed c piece) m = pumped_until (with_input s c piece) c m
+after_by s (events.Took c n) m =
     if may_take (session c s) n then pumped_until (without_output s c n) c m else s
-after_by s (Close c) m = record s { sessions = without c s.sessions }
-after_by s (Id id) m = handed_in id s
+after_by s (events.Close c) m = record s { sessions = without c s.sessions }
+after_by s (events.Id id) m = handed_in id s
 
 -- What an event leaves, by its outcome.
 abbrev pub after : ServerState → Event → Outcome → ServerState
@@ -109,40 +106,43 @@ accepted x piece =
     if x.ending then length piece else min (length piece) (HELD_LIMIT - length x.held)
 
 abbrev pub fed_by : Option SessionState → List ℕ → Bool → Outcome
-fed_by None piece overlong = Refused NoSuchClient
-fed_by (Some x) piece overlong = if overlong then Refused LineTooLong else Fed (accepted x piece)
+fed_by None piece overlong = Refused faults.NoSuchClient
+fed_by (Some x) piece overlong =
+    if overlong then Refused faults.LineTooLong else Fed (accepted x piece)
 
 abbrev pub took_by : Option SessionState → ℕ → Bool → Outcome
-took_by None n overlong = Refused NoSuchClient
+took_by None n overlong = Refused faults.NoSuchClient
 took_by (Some x) n overlong =
-    if may_take (Some x) n then (if overlong then Refused LineTooLong else Done)
-    else Refused TookTooMuch
+    if may_take (Some x) n then (if overlong then Refused faults.LineTooLong else Done)
+    else Refused faults.TookTooMuch
 
 abbrev pub closed_by : Option SessionState → Outcome
-closed_by None = Refused NoSuchClient
+closed_by None = Refused faults.NoSuchClient
 closed_by (Some x) = Done
 
 unfoldable pub outcome_of : ServerState → Event → Outcome
-outcome_of s (DriverUp u) = connected_by (ups_at u.place s)
-outcome_of s (DriverBytes u piece) = driver_bytes_by piece (ups_at u.place s)
-outcome_of s (DriverTook u n) = driver_took_by n (ups_at u.place s)
-outcome_of s (DriverDown u) = disconnected_by (ups_at u.place s)
-outcome_of s (Tick seconds) = Done
-outcome_of s (Open address) = if may_open s then Opened s.next_id else Refused TooManyClients
-outcome_of s (Feed c piece) =
+outcome_of s (events.DriverUp u) = connected_by (ups_at u.place s)
+outcome_of s (events.DriverBytes u piece) = driver_bytes_by piece (ups_at u.place s)
+outcome_of s (events.DriverTook u n) = driver_took_by n (ups_at u.place s)
+outcome_of s (events.DriverDown u) = disconnected_by (ups_at u.place s)
+outcome_of s (events.Tick seconds) = Done
+outcome_of s (events.Open address) =
+    if may_open s then Opened s.next_id else Refused faults.TooManyClients
+outcome_of s (events.Feed c piece) =
     fed_by (session c s) piece (is_overlong (after_all_lines (with_input s c piece) c) c)
-outcome_of s (Took c n) =
+outcome_of s (events.Took c n) =
     took_by (session c s) n (is_overlong (after_all_lines (without_output s c n) c) c)
-outcome_of s (Close c) = closed_by (session c s)
-outcome_of s (Id id) = id_outcome (id_fault id s.tracking)
+outcome_of s (events.Close c) = closed_by (session c s)
+outcome_of s (events.Id id) = id_outcome (id_fault id s.tracking)
 
 -- Memory may be refused after k lines of the event. The next line of a client stays held, to be
 -- tried again.
 unfoldable pub MayLackMemory : ServerState → Event → ℕ → Type 0
-MayLackMemory s (DriverBytes u piece) k = IsTrue (driver_may_lack_memory u piece k s)
-MayLackMemory s (Open address) k = (k ≡ 0) × IsTrue (may_open s)
-MayLackMemory s (Feed c piece) k = IsTrue (wants_memory (after_lines k (with_input s c piece) c) c)
-MayLackMemory s (Took c n) k =
+MayLackMemory s (events.DriverBytes u piece) k = IsTrue (driver_may_lack_memory u piece k s)
+MayLackMemory s (events.Open address) k = (k ≡ 0) × IsTrue (may_open s)
+MayLackMemory s (events.Feed c piece) k =
+    IsTrue (wants_memory (after_lines k (with_input s c piece) c) c)
+MayLackMemory s (events.Took c n) k =
     IsTrue (may_take (session c s) n)
     × IsTrue (wants_memory (after_lines k (without_output s c n) c) c)
 MayLackMemory s _ k = ⊥
@@ -150,7 +150,8 @@ MayLackMemory s _ k = ⊥
 -- Beside the one outcome there is only being out of memory.
 abbrev pub MayAnswer : ServerState → Event → Outcome → Type 0
 MayAnswer s e outcome =
-    (outcome ≡ outcome_of s e) ⊎ ((k : ℕ) × (outcome ≡ Refused (Memory k)) × MayLackMemory s e k)
+    (outcome ≡ outcome_of s e) ⊎ ((k : ℕ) × (outcome ≡ Refused (faults.Memory k)) ×
+    MayLackMemory s e k)
 
 -- One event: what was answered may be, and the new server is what that leaves.
 pub record Step (old : ServerState) (event : Event) (outcome : Outcome) (new : ServerState)

@@ -5,9 +5,9 @@ ghost use Rattle.nutcore.specs.Promises.{with_note};
 
 use crate::HELD_LIMIT;
 use crate::event::ClientId;
+use nutcommand::ErrWord;
 use nutdriver::DriverFault;
 use nutio::BoundedList;
-use nutcommand::ErrWord;
 use nutusers::{UpsId, UserName};
 use nutwords::{Address, Name, UpsName, Value};
 use std::fmt::{self, Formatter, Write};

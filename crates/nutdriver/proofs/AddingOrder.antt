@@ -22,8 +22,7 @@ use Rattle.nutdriver.specs.declared.effect.Effect.TheVariants.{Nothing, Changed}
 use Rattle.nutdriver.specs.declared.fault.DriverFault.{DriverFault}
 use Rattle.nutdriver.specs.declared.fault.DriverFault.TheVariants.{NoSuchItem, Full}
 use Rattle.nutdriver.specs.declared.line.DriverLine.{DriverLine}
-use Rattle.nutdriver.specs.declared.line.DriverLine.TheVariants.{SetInfo, DelInfo, AddEnum, DelEnum, AddRange}
-use Rattle.nutdriver.specs.declared.line.DriverLine.TheVariants.{DelRange, SetAux, SetFlags, AddCmd, DelCmd}
+use Rattle.nutdriver.specs.declared.line.DriverLine.TheVariants as reports
 use Rattle.nutdriver.specs.declared.range.Range.{Range}
 use Rattle.nutdriver.specs.declared.report.Report.{Report}
 use Rattle.nutdriver.specs.Variable.{VariableState, new_variable, is_same_range, with_value}
@@ -240,62 +239,62 @@ module _ (laws : ChangeLaws) (tree : TreeState) (rise : HasRisingKeys byte_order
   values_move : (line : DriverLine)
       → StepMoves values (λ name. takes_value name line) (λ name. added_value name line) tree
       (driver_step tree line)
-  values_move (SetInfo this value) = set_info_moves values laws tree rise this value _ refl refl (λ v. refl)
-  values_move (DelInfo this) = delete_info_moves values laws tree rise this _ refl
-  values_move (AddEnum this value) =
+  values_move (reports.SetInfo this value) = set_info_moves values laws tree rise this value _ refl refl (λ v. refl)
+  values_move (reports.DelInfo this) = delete_info_moves values laws tree rise this _ refl
+  values_move (reports.AddEnum this value) =
       on_variable_moves values laws tree rise this (add_enum value) (λ b x. false)
       (λ b. if b then Some value else None)
       (λ v. added_by values (λ x. false) (Some value) v _ (pushed v.enum_values value) _ _)
       all_kept
-  values_move (DelEnum this value) =
+  values_move (reports.DelEnum this value) =
       on_variable_moves values laws tree rise this (delete_enum value) (λ b x. b && bytes_eq x value) (λ b. None)
       (λ v. taken_by values (λ x. bytes_eq x value) None v _ (left_out (λ x. bytes_eq x value) v.enum_values) _)
       all_kept
-  values_move (AddRange this range) =
+  values_move (reports.AddRange this range) =
       on_variable_keeps values laws tree rise this (add_range range)
       (λ v. added_by values (λ x. false) None v _ (all_kept v.enum_values) _ _)
-  values_move (DelRange this range) =
+  values_move (reports.DelRange this range) =
       on_variable_keeps values laws tree rise this (delete_range range)
       (λ v. taken_by values (λ x. false) None v _ (all_kept v.enum_values) _)
-  values_move (SetAux this aux) =
+  values_move (reports.SetAux this aux) =
       on_variable_keeps values laws tree rise this (λ variable. Ok (Some (with_aux aux variable)))
       (λ v. all_kept v.enum_values)
-  values_move (SetFlags this flags) =
+  values_move (reports.SetFlags this flags) =
       on_variable_keeps values laws tree rise this (λ variable. Ok (Some (with_flags flags variable)))
       (λ v. all_kept v.enum_values)
-  values_move (AddCmd command) = add_command_keeps values laws tree rise command _ _
-  values_move (DelCmd command) = delete_command_keeps values laws tree rise command _
+  values_move (reports.AddCmd command) = add_command_keeps values laws tree rise command _ _
+  values_move (reports.DelCmd command) = delete_command_keeps values laws tree rise command _
   values_move _ = refl
 
   ranges_move : (line : DriverLine)
       → StepMoves ranges (λ name. takes_range name line) (λ name. added_range name line) tree
       (driver_step tree line)
-  ranges_move (SetInfo this value) = set_info_moves ranges laws tree rise this value _ refl refl (λ v. refl)
-  ranges_move (DelInfo this) = delete_info_moves ranges laws tree rise this _ refl
-  ranges_move (AddEnum this value) =
+  ranges_move (reports.SetInfo this value) = set_info_moves ranges laws tree rise this value _ refl refl (λ v. refl)
+  ranges_move (reports.DelInfo this) = delete_info_moves ranges laws tree rise this _ refl
+  ranges_move (reports.AddEnum this value) =
       on_variable_keeps ranges laws tree rise this (add_enum value)
       (λ v. added_by ranges (λ x. false) None v _ (all_kept v.ranges) _ _)
-  ranges_move (DelEnum this value) =
+  ranges_move (reports.DelEnum this value) =
       on_variable_keeps ranges laws tree rise this (delete_enum value)
       (λ v. taken_by ranges (λ x. false) None v _ (all_kept v.ranges) _)
-  ranges_move (AddRange this range) =
+  ranges_move (reports.AddRange this range) =
       on_variable_moves ranges laws tree rise this (add_range range) (λ b x. false)
       (λ b. if b then Some range else None)
       (λ v. added_by ranges (λ x. false) (Some range) v _ (pushed v.ranges range) _ _)
       all_kept
-  ranges_move (DelRange this range) =
+  ranges_move (reports.DelRange this range) =
       on_variable_moves ranges laws tree rise this (delete_range range)
       (λ b x. b && is_same_range x range) (λ b. None)
       (λ v. taken_by ranges (λ x. is_same_range x range) None v _ (left_out (λ x. is_same_range x range) v.ranges) _)
       all_kept
-  ranges_move (SetAux this aux) =
+  ranges_move (reports.SetAux this aux) =
       on_variable_keeps ranges laws tree rise this (λ variable. Ok (Some (with_aux aux variable)))
       (λ v. all_kept v.ranges)
-  ranges_move (SetFlags this flags) =
+  ranges_move (reports.SetFlags this flags) =
       on_variable_keeps ranges laws tree rise this (λ variable. Ok (Some (with_flags flags variable)))
       (λ v. all_kept v.ranges)
-  ranges_move (AddCmd command) = add_command_keeps ranges laws tree rise command _ _
-  ranges_move (DelCmd command) = delete_command_keeps ranges laws tree rise command _
+  ranges_move (reports.AddCmd command) = add_command_keeps ranges laws tree rise command _ _
+  ranges_move (reports.DelCmd command) = delete_command_keeps ranges laws tree rise command _
   ranges_move _ = refl
 
 -- the lists after lines, one after another

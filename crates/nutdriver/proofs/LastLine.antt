@@ -13,9 +13,7 @@ use Rattle.nutdriver.specs.declared.effect.Effect.TheVariants.{Nothing, Changed}
 use Rattle.nutdriver.specs.declared.fault.DriverFault.{DriverFault}
 use Rattle.nutdriver.specs.declared.fault.DriverFault.TheVariants.{NoSuchItem, Full}
 use Rattle.nutdriver.specs.declared.line.DriverLine.{DriverLine}
-use Rattle.nutdriver.specs.declared.line.DriverLine.TheVariants.{SetInfo, DelInfo, AddEnum, DelEnum}
-use Rattle.nutdriver.specs.declared.line.DriverLine.TheVariants.{AddRange, DelRange, SetAux}
-use Rattle.nutdriver.specs.declared.line.DriverLine.TheVariants.{SetFlags, AddCmd, DelCmd}
+use Rattle.nutdriver.specs.declared.line.DriverLine.TheVariants as reports
 use Rattle.nutdriver.specs.Variable.{VariableState, new_variable, has_value, has_range, with_value}
 use Rattle.nutdriver.specs.Variable.{add_enum, delete_enum, add_range, delete_range, with_aux}
 use Rattle.nutdriver.specs.Variable.{with_flags}
@@ -31,8 +29,8 @@ use Rattle.nutdriver.proofs.SoundTrees.{empty_sound}
 
 -- what a line that changes the tree does to the value of a name
 abbrev after_one : List ℕ → Option (List ℕ) → DriverLine → Option (List ℕ)
-after_one name before (SetInfo other value) = cond (bytes_eq other name) (Some value) before
-after_one name before (DelInfo other) = cond (bytes_eq other name) None before
+after_one name before (reports.SetInfo other value) = cond (bytes_eq other name) (Some value) before
+after_one name before (reports.DelInfo other) = cond (bytes_eq other name) None before
 after_one name before _ = before
 
 after_all : List ℕ → Option (List ℕ) → List DriverLine → Option (List ℕ)
@@ -47,8 +45,8 @@ all_both name before (x ∷ xs) ys = all_both name (after_one name before x) xs 
 
 none_by : (name : List ℕ) (before : Option (List ℕ)) (line : DriverLine) →
     decides name line ≡ false → after_one name before line ≡ before
-none_by name before (SetInfo other value) h = ap (λ (b : Bool). cond b (Some value) before) h
-none_by name before (DelInfo other) h = ap (λ (b : Bool). cond b None before) h
+none_by name before (reports.SetInfo other value) h = ap (λ (b : Bool). cond b (Some value) before) h
+none_by name before (reports.DelInfo other) h = ap (λ (b : Bool). cond b None before) h
 none_by name before _ h = refl
 
 none_after : (name : List ℕ) (before : Option (List ℕ)) (lines : List DriverLine) →
@@ -159,24 +157,25 @@ module _ (laws : ChangeLaws) (tree : TreeState) (rise : HasRisingKeys byte_order
 
   line_gives : (line : DriverLine) →
       StepGives (λ name before. after_one name before line) tree (driver_step tree line)
-  line_gives (SetInfo this value) = set_info_gives this value (variable_at tree this)
-  line_gives (DelInfo this) = delete_info_gives this (variable_at tree this)
-  line_gives (AddEnum this value) =
+  line_gives (reports.SetInfo this value) = set_info_gives this value (variable_at tree this)
+  line_gives (reports.DelInfo this) = delete_info_gives this (variable_at tree this)
+  line_gives (reports.AddEnum this value) =
       on_variable_leaves this (add_enum value)
       (λ v. if_room v _ (has_value v.enum_values value) (nat_le ENUM_LIMIT (length v.enum_values)) refl)
-  line_gives (DelEnum this value) =
+  line_gives (reports.DelEnum this value) =
       on_variable_leaves this (delete_enum value) (λ v. where_there v _ (has_value v.enum_values value) refl)
-  line_gives (AddRange this range) =
+  line_gives (reports.AddRange this range) =
       on_variable_leaves this (add_range range)
       (λ v. if_room v _ (has_range v.ranges range) (nat_le RANGE_LIMIT (length v.ranges)) refl)
-  line_gives (DelRange this range) =
+  line_gives (reports.DelRange this range) =
       on_variable_leaves this (delete_range range) (λ v. where_there v _ (has_range v.ranges range) refl)
-  line_gives (SetAux this aux) = on_variable_leaves this (λ variable. Ok (Some (with_aux aux variable))) (λ v. refl)
-  line_gives (SetFlags this flags) =
+  line_gives (reports.SetAux this aux) =
+      on_variable_leaves this (λ variable. Ok (Some (with_aux aux variable))) (λ v. refl)
+  line_gives (reports.SetFlags this flags) =
       on_variable_leaves this (λ variable. Ok (Some (with_flags flags variable))) (λ v. refl)
-  line_gives (AddCmd command) = add_command_leaves command (has_command tree command)
+  line_gives (reports.AddCmd command) = add_command_leaves command (has_command tree command)
       (nat_le COMMAND_LIMIT (length tree.commands))
-  line_gives (DelCmd command) = delete_command_leaves command (has_command tree command)
+  line_gives (reports.DelCmd command) = delete_command_leaves command (has_command tree command)
   line_gives _ = refl
 
 pub other_lines_leave : ChangeLaws → OtherLinesLeaveTheValue
@@ -201,11 +200,11 @@ the_last_line_decides laws kept = λ moment lines name.
     record {
       given = λ earlier later value e none.
           is ∙ ap (after_all name None) e ∙
-          all_both name None earlier (SetInfo name value ∷ later) ∙
+          all_both name None earlier (reports.SetInfo name value ∷ later) ∙
           none_after name _ later none ∙ ap (λ (b : Bool). cond b (Some value) (after_all name None earlier)) own;
       taken = λ earlier later e none.
           is ∙ ap (after_all name None) e ∙
-          all_both name None earlier (DelInfo name ∷ later) ∙ none_after name _ later none ∙
+          all_both name None earlier (reports.DelInfo name ∷ later) ∙ none_after name _ later none ∙
           ap (λ (b : Bool). cond b None (after_all name None earlier)) own;
       never = λ none. is ∙ none_after name None (changes report lines) none;
     }

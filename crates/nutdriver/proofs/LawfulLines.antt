@@ -21,10 +21,7 @@ use Rattle.nutwords.specs.declared.faults.BadName.TheVariants.{Empty, TooLong, A
 use Rattle.nutdriver.specs.declared.limits.TheConstants.{NUMBER_LIMIT}
 use Rattle.nutdriver.specs.declared.fault.DriverFault.{DriverFault}
 use Rattle.nutdriver.specs.declared.line.DriverLine.{DriverLine}
-use Rattle.nutdriver.specs.declared.line.DriverLine.TheVariants.{SetInfo, DelInfo, AddEnum, DelEnum}
-use Rattle.nutdriver.specs.declared.line.DriverLine.TheVariants.{AddRange, DelRange, SetAux}
-use Rattle.nutdriver.specs.declared.line.DriverLine.TheVariants.{SetFlags, AddCmd, DelCmd, DumpDone}
-use Rattle.nutdriver.specs.declared.line.DriverLine.TheVariants.{DataOk, DataStale, Pong, Tracking}
+use Rattle.nutdriver.specs.declared.line.DriverLine.TheVariants as lines
 use Rattle.nutdriver.specs.Arguments.{read_number, below_zero, not_below_zero}
 use Rattle.nutdriver.specs.Flags.{flags_of}
 use Rattle.nutwords.specs.Spelling.{is_word}
@@ -211,31 +208,32 @@ lawful_of : (words : List (List ℕ)) → Lawful (driver_line_of words)
 lawful_of [] = tt
 lawful_of (first ∷ words) =
     pick (is_word first (codes "SETINFO")) _ _
-    (line_ok _ (λ a. SetInfo a.0 a.1) (name_and_value words) (λ a h. h) (name_and_value_ok words))
+    (line_ok _ (λ a. lines.SetInfo a.0 a.1) (name_and_value words) (λ a h. h) (name_and_value_ok words))
     (pick (is_word first (codes "DELINFO")) _ _
-    (line_ok _ (λ name. DelInfo name) (name_alone words) (λ a h. h) (name_alone_ok words))
+    (line_ok _ (λ name. lines.DelInfo name) (name_alone words) (λ a h. h) (name_alone_ok words))
     (pick (is_word first (codes "ADDENUM")) _ _
-    (line_ok _ (λ a. AddEnum a.0 a.1) (name_and_value words) (λ a h. h) (name_and_value_ok words))
+    (line_ok _ (λ a. lines.AddEnum a.0 a.1) (name_and_value words) (λ a h. h) (name_and_value_ok words))
     (pick (is_word first (codes "DELENUM")) _ _
-    (line_ok _ (λ a. DelEnum a.0 a.1) (name_and_value words) (λ a h. h) (name_and_value_ok words))
+    (line_ok _ (λ a. lines.DelEnum a.0 a.1) (name_and_value words) (λ a h. h) (name_and_value_ok words))
     (pick (is_word first (codes "ADDRANGE")) _ _
-    (line_ok _ (λ a. AddRange a.0 a.1) (name_and_range words) (λ a h. h) (name_and_range_ok words))
+    (line_ok _ (λ a. lines.AddRange a.0 a.1) (name_and_range words) (λ a h. h) (name_and_range_ok words))
     (pick (is_word first (codes "DELRANGE")) _ _
-    (line_ok _ (λ a. DelRange a.0 a.1) (name_and_range words) (λ a h. h) (name_and_range_ok words))
+    (line_ok _ (λ a. lines.DelRange a.0 a.1) (name_and_range words) (λ a h. h) (name_and_range_ok words))
     (pick (is_word first (codes "SETAUX")) _ _
-    (line_ok _ (λ a. SetAux a.0 a.1) (name_and_aux words) (λ a h. h) (name_and_aux_ok words))
+    (line_ok _ (λ a. lines.SetAux a.0 a.1) (name_and_aux words) (λ a h. h) (name_and_aux_ok words))
     (pick (is_word first (codes "SETFLAGS")) _ _
-    (line_ok _ (λ a. SetFlags a.0 a.1) (name_and_flags words) (λ a h. h.0) (name_and_flags_ok words))
+    (line_ok _ (λ a. lines.SetFlags a.0 a.1) (name_and_flags words) (λ a h. h.0) (name_and_flags_ok words))
     (pick (is_word first (codes "ADDCMD")) _ _
-    (line_ok _ (λ name. AddCmd name) (name_alone words) (λ a h. h) (name_alone_ok words))
+    (line_ok _ (λ name. lines.AddCmd name) (name_alone words) (λ a h. h) (name_alone_ok words))
     (pick (is_word first (codes "DELCMD")) _ _
-    (line_ok _ (λ name. DelCmd name) (name_alone words) (λ a h. h) (name_alone_ok words))
-    (pick (is_word first (codes "DUMPDONE")) _ _ (alone_ok DumpDone words tt)
-    (pick (is_word first (codes "DATAOK")) _ _ (alone_ok DataOk words tt)
-    (pick (is_word first (codes "DATASTALE")) _ _ (alone_ok DataStale words tt)
-    (pick (is_word first (codes "PONG")) _ _ (alone_ok Pong words tt)
+    (line_ok _ (λ name. lines.DelCmd name) (name_alone words) (λ a h. h) (name_alone_ok words))
+    (pick (is_word first (codes "DUMPDONE")) _ _ (alone_ok lines.DumpDone words tt)
+    (pick (is_word first (codes "DATAOK")) _ _ (alone_ok lines.DataOk words tt)
+    (pick (is_word first (codes "DATASTALE")) _ _ (alone_ok lines.DataStale words tt)
+    (pick (is_word first (codes "PONG")) _ _ (alone_ok lines.Pong words tt)
     (pick (is_word first (codes "TRACKING")) _ _
-    (line_ok _ (λ a. Tracking a.0 a.1) (id_and_number words) (λ a h. h.1) (id_and_number_ok words)) tt))))))))))))))
+    (line_ok _ (λ a. lines.Tracking a.0 a.1) (id_and_number words) (λ a h. h.1)
+    (id_and_number_ok words)) tt))))))))))))))
 
 lawful_from : (r : Result (List (List ℕ)) BadLine) → Lawful (driver_line_from r)
 lawful_from (Err bad) = tt

@@ -2,8 +2,7 @@
 use Rattle.std.proofs.Common.{ℕ, List}
 use Rattle.std.specs.Prelude.{Result, Ok, Err, IfOk}
 use Rattle.nutdriver.specs.declared.effect.Effect.{Effect}
-use Rattle.nutdriver.specs.declared.effect.Effect.TheVariants.{Nothing, Changed, DumpDone, DataOk}
-use Rattle.nutdriver.specs.declared.effect.Effect.TheVariants.{DataStale, Pong, Tracked}
+use Rattle.nutdriver.specs.declared.effect.Effect.TheVariants as effects
 use Rattle.nutdriver.specs.declared.fault.DriverFault.{DriverFault}
 use Rattle.nutdriver.specs.declared.line.DriverLine.{DriverLine}
 use Rattle.nutdriver.specs.declared.report.Report.{Report}
@@ -15,13 +14,13 @@ use Rattle.nutdriver.specs.Sound.{IsSoundTree, IsLawfulLine, ReadLinesAreLawful,
 
 effect_sound : (report : Report) (effect : Effect) (tree : TreeState) → IsSoundTree tree →
     IsSoundTree (after_effect effect (record report { tree = tree })).tree
-effect_sound report Nothing tree s = s
-effect_sound report Changed tree s = s
-effect_sound report DumpDone tree s = s
-effect_sound report DataOk tree s = s
-effect_sound report DataStale tree s = s
-effect_sound report Pong tree s = s
-effect_sound report (Tracked id number) tree s = s
+effect_sound report effects.Nothing tree s = s
+effect_sound report effects.Changed tree s = s
+effect_sound report effects.DumpDone tree s = s
+effect_sound report effects.DataOk tree s = s
+effect_sound report effects.DataStale tree s = s
+effect_sound report effects.Pong tree s = s
+effect_sound report (effects.Tracked id number) tree s = s
 
 step_sound : (report : Report) (step : Result (TreeState × Effect) DriverFault) →
     IsSoundTree report.tree → IfOk step (λ after. IsSoundTree after.0) →

@@ -33,11 +33,7 @@ use Rattle.nutdriver.specs.declared.fault.DriverFault.TheVariants.{NoSuchItem, F
 use Rattle.nutdriver.specs.declared.effect.Effect.{Effect}
 use Rattle.nutdriver.specs.declared.effect.Effect.TheVariants.{Nothing, Changed}
 use Rattle.nutdriver.specs.declared.line.DriverLine.{DriverLine}
-use Rattle.nutdriver.specs.declared.line.DriverLine.TheVariants.{Blank, SetInfo, DelInfo, AddEnum}
-use Rattle.nutdriver.specs.declared.line.DriverLine.TheVariants.{DelEnum, AddRange, DelRange}
-use Rattle.nutdriver.specs.declared.line.DriverLine.TheVariants.{SetAux, SetFlags, AddCmd, DelCmd}
-use Rattle.nutdriver.specs.declared.line.DriverLine.TheVariants.{DumpDone, DataOk, DataStale, Pong}
-use Rattle.nutdriver.specs.declared.line.DriverLine.TheVariants.{Tracking}
+use Rattle.nutdriver.specs.declared.line.DriverLine.TheVariants as lines
 use Rattle.nutdriver.specs.declared.flags.Flags.{Flags}
 use Rattle.nutdriver.specs.declared.range.Range.{Range}
 use Rattle.nutdriver.specs.Variable.{VariableState, new_variable, has_value, has_range}
@@ -415,31 +411,32 @@ module _ (laws : MapLaws VariableState) (units_laws : MapLaws ⊤) (tree : TreeS
   delete_command_cases name false = tt
 
   pub step_sound : (line : DriverLine) → IsLawfulLine line → Sound (driver_step tree line)
-  step_sound Blank lawful = s
-  step_sound (SetInfo name value) lawful = set_info_sound name value lawful.0 lawful.1 (variable_at tree name) refl
-  step_sound (DelInfo name) lawful = delete_info_sound name (variable_at tree name)
-  step_sound (AddEnum name value) lawful =
+  step_sound lines.Blank lawful = s
+  step_sound (lines.SetInfo name value) lawful =
+      set_info_sound name value lawful.0 lawful.1 (variable_at tree name) refl
+  step_sound (lines.DelInfo name) lawful = delete_info_sound name (variable_at tree name)
+  step_sound (lines.AddEnum name value) lawful =
       on_variable_sound name (add_enum value) lawful.0 (λ v sound. add_enum_sound v sound value lawful.1)
-  step_sound (DelEnum name value) lawful =
+  step_sound (lines.DelEnum name value) lawful =
       on_variable_sound name (delete_enum value) lawful.0 (λ v sound. delete_enum_sound v sound value)
-  step_sound (AddRange name range) lawful =
+  step_sound (lines.AddRange name range) lawful =
       on_variable_sound name (add_range range) lawful.0 (λ v sound. add_range_sound v sound range lawful.1)
-  step_sound (DelRange name range) lawful =
+  step_sound (lines.DelRange name range) lawful =
       on_variable_sound name (delete_range range) lawful.0 (λ v sound. delete_range_sound v sound range)
-  step_sound (SetAux name aux) lawful =
+  step_sound (lines.SetAux name aux) lawful =
       on_variable_sound name (λ variable. Ok (Some (with_aux aux variable))) lawful.0
       (λ v sound. with_aux_sound v sound aux lawful.1)
-  step_sound (SetFlags name flags) lawful =
+  step_sound (lines.SetFlags name flags) lawful =
       on_variable_sound name (λ variable. Ok (Some (with_flags flags variable))) lawful
       (λ v sound. with_flags_sound v sound flags)
-  step_sound (AddCmd name) lawful =
+  step_sound (lines.AddCmd name) lawful =
       add_command_cases name lawful (has_command tree name) (nat_le COMMAND_LIMIT (length tree.commands)) refl
-  step_sound (DelCmd name) lawful = delete_command_cases name (has_command tree name)
-  step_sound DumpDone lawful = s
-  step_sound DataOk lawful = s
-  step_sound DataStale lawful = s
-  step_sound Pong lawful = s
-  step_sound (Tracking id number) lawful = s
+  step_sound (lines.DelCmd name) lawful = delete_command_cases name (has_command tree name)
+  step_sound lines.DumpDone lawful = s
+  step_sound lines.DataOk lawful = s
+  step_sound lines.DataStale lawful = s
+  step_sound lines.Pong lawful = s
+  step_sound (lines.Tracking id number) lawful = s
 
 none_rise : IsStrictlySortedBy byte_order []
 unfolding IsStrictlySortedBy

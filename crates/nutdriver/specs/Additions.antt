@@ -5,8 +5,7 @@ use Rattle.std.specs.List.{list_any}
 use Rattle.std.specs.Option.{option_map_or}
 use Rattle.std.specs.Str.{bytes_eq}
 use Rattle.nutdriver.specs.declared.line.DriverLine.{DriverLine}
-use Rattle.nutdriver.specs.declared.line.DriverLine.TheVariants.{DelInfo, AddEnum, DelEnum}
-use Rattle.nutdriver.specs.declared.line.DriverLine.TheVariants.{AddRange, DelRange}
+use Rattle.nutdriver.specs.declared.line.DriverLine.TheVariants as reports
 use Rattle.nutdriver.specs.declared.range.Range.{Range}
 use Rattle.nutdriver.specs.Variable.{is_same_range}
 use Rattle.nutdriver.specs.Tree.{TreeState, variable_at}
@@ -30,23 +29,24 @@ kept_additions adds takes (line ∷ later) =
 
 -- The enum value that the line adds to the variable of this name.
 abbrev pub added_value : List ℕ → DriverLine → Option (List ℕ)
-added_value name (AddEnum other value) = if bytes_eq other name then Some value else None
+added_value name (reports.AddEnum other value) = if bytes_eq other name then Some value else None
 added_value name _ = None
 
 -- The line takes this enum value from it: by itself, or the variable with all that it has.
 abbrev pub takes_value : List ℕ → DriverLine → List ℕ → Bool
-takes_value name (DelEnum other taken) value = bytes_eq other name && bytes_eq value taken
-takes_value name (DelInfo other) value = bytes_eq other name
+takes_value name (reports.DelEnum other taken) value = bytes_eq other name && bytes_eq value taken
+takes_value name (reports.DelInfo other) value = bytes_eq other name
 takes_value name _ value = false
 
 -- The same of ranges.
 abbrev pub added_range : List ℕ → DriverLine → Option Range
-added_range name (AddRange other range) = if bytes_eq other name then Some range else None
+added_range name (reports.AddRange other range) = if bytes_eq other name then Some range else None
 added_range name _ = None
 
 abbrev pub takes_range : List ℕ → DriverLine → Range → Bool
-takes_range name (DelRange other taken) range = bytes_eq other name && is_same_range range taken
-takes_range name (DelInfo other) range = bytes_eq other name
+takes_range name (reports.DelRange other taken) range =
+    bytes_eq other name && is_same_range range taken
+takes_range name (reports.DelInfo other) range = bytes_eq other name
 takes_range name _ range = false
 
 -- The enum values of the variable of this name, and its ranges: none where it isn't there.

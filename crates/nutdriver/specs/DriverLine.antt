@@ -3,11 +3,7 @@ use Rattle.std.specs.Prelude.{ℕ, List, [], ◌∷◌, Result, Ok, Err, codes, 
 use Rattle.nutwords.specs.Scan.{read_line}
 use Rattle.nutwords.specs.declared.faults.BadLine.{BadLine}
 use Rattle.nutdriver.specs.declared.line.DriverLine.{DriverLine}
-use Rattle.nutdriver.specs.declared.line.DriverLine.TheVariants.{Blank, SetInfo, DelInfo, AddEnum}
-use Rattle.nutdriver.specs.declared.line.DriverLine.TheVariants.{DelEnum, AddRange, DelRange}
-use Rattle.nutdriver.specs.declared.line.DriverLine.TheVariants.{SetAux, SetFlags, AddCmd, DelCmd}
-use Rattle.nutdriver.specs.declared.line.DriverLine.TheVariants.{DumpDone, DataOk, DataStale, Pong}
-use Rattle.nutdriver.specs.declared.line.DriverLine.TheVariants.{Tracking}
+use Rattle.nutdriver.specs.declared.line.DriverLine.TheVariants as lines
 use Rattle.nutdriver.specs.declared.fault.DriverFault.{DriverFault}
 use Rattle.nutdriver.specs.declared.fault.DriverFault.TheVariants.{Malformed, Unknown}
 use Rattle.nutwords.specs.Spelling.{is_word}
@@ -29,50 +25,55 @@ alone line (word ∷ words) = Err Malformed
 abbrev pub order_line : List ℕ → List (List ℕ) → Result DriverLine DriverFault
 order_line first words =
     if is_word first (codes "TRACKING")
-    then line_of (λ a. Tracking a.0 a.1) (id_and_number words)
+    then line_of (λ a. lines.Tracking a.0 a.1) (id_and_number words)
     else Err Unknown
 
 -- The lines of the driver's state, and the one above.
 abbrev pub state_line : List ℕ → List (List ℕ) → Result DriverLine DriverFault
 state_line first words =
-    if is_word first (codes "DUMPDONE") then alone DumpDone words
-    else if is_word first (codes "DATAOK") then alone DataOk words
-    else if is_word first (codes "DATASTALE") then alone DataStale words
-    else if is_word first (codes "PONG") then alone Pong words
+    if is_word first (codes "DUMPDONE") then alone lines.DumpDone words
+    else if is_word first (codes "DATAOK") then alone lines.DataOk words
+    else if is_word first (codes "DATASTALE") then alone lines.DataStale words
+    else if is_word first (codes "PONG") then alone lines.Pong words
     else order_line first words
 
 -- Those of a command, and the ones above.
 abbrev pub command_line : List ℕ → List (List ℕ) → Result DriverLine DriverFault
 command_line first words =
-    if is_word first (codes "ADDCMD") then line_of (λ name. AddCmd name) (name_alone words)
-    else if is_word first (codes "DELCMD") then line_of (λ name. DelCmd name) (name_alone words)
+    if is_word first (codes "ADDCMD") then line_of (λ name. lines.AddCmd name) (name_alone words)
+    else if is_word first (codes "DELCMD")
+    then line_of (λ name. lines.DelCmd name) (name_alone words)
     else state_line first words
 
 -- Those of a variable's ranges, aux and flags, and the ones above.
 abbrev pub limit_line : List ℕ → List (List ℕ) → Result DriverLine DriverFault
 limit_line first words =
-    if is_word first (codes "ADDRANGE") then line_of (λ a. AddRange a.0 a.1) (name_and_range words)
+    if is_word first (codes "ADDRANGE")
+    then line_of (λ a. lines.AddRange a.0 a.1) (name_and_range words)
     else if is_word first (codes "DELRANGE")
-    then line_of (λ a. DelRange a.0 a.1) (name_and_range words)
-    else if is_word first (codes "SETAUX") then line_of (λ a. SetAux a.0 a.1) (name_and_aux words)
+    then line_of (λ a. lines.DelRange a.0 a.1) (name_and_range words)
+    else if is_word first (codes "SETAUX")
+    then line_of (λ a. lines.SetAux a.0 a.1) (name_and_aux words)
     else if is_word first (codes "SETFLAGS")
-    then line_of (λ a. SetFlags a.0 a.1) (name_and_flags words)
+    then line_of (λ a. lines.SetFlags a.0 a.1) (name_and_flags words)
     else command_line first words
 
 -- Those of a variable's value and enum values, and the ones above: so all that there are.
 abbrev pub value_line : List ℕ → List (List ℕ) → Result DriverLine DriverFault
 value_line first words =
-    if is_word first (codes "SETINFO") then line_of (λ a. SetInfo a.0 a.1) (name_and_value words)
-    else if is_word first (codes "DELINFO") then line_of (λ name. DelInfo name) (name_alone words)
+    if is_word first (codes "SETINFO")
+    then line_of (λ a. lines.SetInfo a.0 a.1) (name_and_value words)
+    else if is_word first (codes "DELINFO")
+    then line_of (λ name. lines.DelInfo name) (name_alone words)
     else if is_word first (codes "ADDENUM")
-    then line_of (λ a. AddEnum a.0 a.1) (name_and_value words)
+    then line_of (λ a. lines.AddEnum a.0 a.1) (name_and_value words)
     else if is_word first (codes "DELENUM")
-    then line_of (λ a. DelEnum a.0 a.1) (name_and_value words)
+    then line_of (λ a. lines.DelEnum a.0 a.1) (name_and_value words)
     else limit_line first words
 
 -- The line that these words are.
 abbrev pub driver_line_of : List (List ℕ) → Result DriverLine DriverFault
-driver_line_of [] = Ok Blank
+driver_line_of [] = Ok lines.Blank
 driver_line_of (first ∷ words) = value_line first words
 
 abbrev pub driver_line_from : Result (List (List ℕ)) BadLine → Result DriverLine DriverFault

@@ -3,11 +3,7 @@ use Rattle.std.specs.Prelude.{ℕ, Bool, true, false, nat_le, List, length, Opti
 use Rattle.std.specs.Prelude.{Result, Ok, Err, if◌then◌else◌}
 use Rattle.nutdriver.specs.declared.limits.TheConstants.{VARIABLE_LIMIT, COMMAND_LIMIT}
 use Rattle.nutdriver.specs.declared.line.DriverLine.{DriverLine}
-use Rattle.nutdriver.specs.declared.line.DriverLine.TheVariants.{Blank, SetInfo, DelInfo, AddEnum}
-use Rattle.nutdriver.specs.declared.line.DriverLine.TheVariants.{DelEnum, AddRange, DelRange}
-use Rattle.nutdriver.specs.declared.line.DriverLine.TheVariants.{SetAux, SetFlags, AddCmd, DelCmd}
-use Rattle.nutdriver.specs.declared.line.DriverLine.TheVariants.{DumpDone, DataOk, DataStale, Pong}
-use Rattle.nutdriver.specs.declared.line.DriverLine.TheVariants.{Tracking}
+use Rattle.nutdriver.specs.declared.line.DriverLine.TheVariants as lines
 use Rattle.nutdriver.specs.declared.fault.DriverFault.{DriverFault}
 use Rattle.nutdriver.specs.declared.fault.DriverFault.TheVariants.{NoSuchVar, NoSuchItem, Full}
 use Rattle.nutdriver.specs.declared.effect.Effect.{Effect}
@@ -58,29 +54,29 @@ delete_info tree name (Some variable) = Ok (without_variable tree name, Changed)
 
 -- The tree afterwards and the effect, or the refusal.
 abbrev pub driver_step : TreeState → DriverLine → Result (TreeState × Effect) DriverFault
-driver_step tree Blank = Ok (tree, Nothing)
-driver_step tree (SetInfo name value) = set_info tree name value (variable_at tree name)
-driver_step tree (DelInfo name) = delete_info tree name (variable_at tree name)
-driver_step tree (AddEnum name value) = on_variable tree name (add_enum value)
-driver_step tree (DelEnum name value) = on_variable tree name (delete_enum value)
-driver_step tree (AddRange name range) = on_variable tree name (add_range range)
-driver_step tree (DelRange name range) = on_variable tree name (delete_range range)
-driver_step tree (SetAux name aux) =
+driver_step tree lines.Blank = Ok (tree, Nothing)
+driver_step tree (lines.SetInfo name value) = set_info tree name value (variable_at tree name)
+driver_step tree (lines.DelInfo name) = delete_info tree name (variable_at tree name)
+driver_step tree (lines.AddEnum name value) = on_variable tree name (add_enum value)
+driver_step tree (lines.DelEnum name value) = on_variable tree name (delete_enum value)
+driver_step tree (lines.AddRange name range) = on_variable tree name (add_range range)
+driver_step tree (lines.DelRange name range) = on_variable tree name (delete_range range)
+driver_step tree (lines.SetAux name aux) =
     on_variable tree name (λ variable. Ok (Some (with_aux aux variable)))
-driver_step tree (SetFlags name flags) =
+driver_step tree (lines.SetFlags name flags) =
     on_variable tree name (λ variable. Ok (Some (with_flags flags variable)))
-driver_step tree (AddCmd name) =
+driver_step tree (lines.AddCmd name) =
     if has_command tree name then Ok (tree, Nothing)
     else if nat_le COMMAND_LIMIT (length tree.commands) then Err Full
     else Ok (with_command tree name, Changed)
-driver_step tree (DelCmd name) =
+driver_step tree (lines.DelCmd name) =
     if has_command tree name then Ok (without_command tree name, Changed)
     else Err NoSuchItem
-driver_step tree DumpDone = Ok (tree, DumpIsDone)
-driver_step tree DataOk = Ok (tree, DataAreOk)
-driver_step tree DataStale = Ok (tree, DataAreStale)
-driver_step tree Pong = Ok (tree, PongCame)
-driver_step tree (Tracking id number) = Ok (tree, Tracked id number)
+driver_step tree lines.DumpDone = Ok (tree, DumpIsDone)
+driver_step tree lines.DataOk = Ok (tree, DataAreOk)
+driver_step tree lines.DataStale = Ok (tree, DataAreStale)
+driver_step tree lines.Pong = Ok (tree, PongCame)
+driver_step tree (lines.Tracking id number) = Ok (tree, Tracked id number)
 
 -- The line would change the tree.
 abbrev pub is_change : Result (TreeState × Effect) DriverFault → Bool
@@ -92,13 +88,13 @@ changes_tree tree line = is_change (driver_step tree line)
 
 -- How many entries the map has that the line may change.
 abbrev pub entries_before : TreeState → DriverLine → ℕ
-entries_before tree (AddCmd name) = length tree.commands
-entries_before tree (DelCmd name) = length tree.commands
+entries_before tree (lines.AddCmd name) = length tree.commands
+entries_before tree (lines.DelCmd name) = length tree.commands
 entries_before tree _ = length tree.variables
 
 -- The line puts an entry into a map where it changes the tree: it is none of those that take one
 -- out.
 abbrev pub puts_entry : DriverLine → Bool
-puts_entry (DelInfo name) = false
-puts_entry (DelCmd name) = false
+puts_entry (lines.DelInfo name) = false
+puts_entry (lines.DelCmd name) = false
 puts_entry _ = true

@@ -8,8 +8,7 @@ use Rattle.nutdriver.specs.declared.fault.DriverFault.TheVariants.{Memory}
 use Rattle.nutdriver.specs.declared.effect.Effect.{Effect}
 use Rattle.nutdriver.specs.declared.effect.Effect.TheVariants.{Changed}
 use Rattle.nutdriver.specs.declared.line.DriverLine.{DriverLine}
-use Rattle.nutdriver.specs.declared.line.DriverLine.TheVariants.{AddEnum, DelEnum, AddRange}
-use Rattle.nutdriver.specs.declared.line.DriverLine.TheVariants.{DelRange, SetAux, SetFlags}
+use Rattle.nutdriver.specs.declared.line.DriverLine.TheVariants as lines
 use Rattle.nutdriver.specs.Variable.{VariableState, add_enum, delete_enum, add_range, delete_range}
 use Rattle.nutdriver.specs.Variable.{with_aux, with_flags}
 use Rattle.nutdriver.specs.Tree.{TreeState}
@@ -18,12 +17,12 @@ use Rattle.nutdriver.specs.DriverStep.{is_change}
 -- What a line does to the variable that it names, which has to be there. Other lines do nothing to
 -- it.
 abbrev pub variable_step : DriverLine → VariableState → Result (Option VariableState) DriverFault
-variable_step (AddEnum name value) v = add_enum value v
-variable_step (DelEnum name value) v = delete_enum value v
-variable_step (AddRange name range) v = add_range range v
-variable_step (DelRange name range) v = delete_range range v
-variable_step (SetAux name aux) v = Ok (Some (with_aux aux v))
-variable_step (SetFlags name flags) v = Ok (Some (with_flags flags v))
+variable_step (lines.AddEnum name value) v = add_enum value v
+variable_step (lines.DelEnum name value) v = delete_enum value v
+variable_step (lines.AddRange name range) v = add_range range v
+variable_step (lines.DelRange name range) v = delete_range range v
+variable_step (lines.SetAux name aux) v = Ok (Some (with_aux aux v))
+variable_step (lines.SetFlags name flags) v = Ok (Some (with_flags flags v))
 variable_step _ v = Ok None
 
 -- The variable would change.

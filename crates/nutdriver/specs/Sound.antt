@@ -8,9 +8,7 @@ use Rattle.nutmap.specs.Entries.{HasRisingKeys}
 use Rattle.nutdriver.specs.declared.limits.TheConstants.{VARIABLE_LIMIT, COMMAND_LIMIT, ENUM_LIMIT}
 use Rattle.nutdriver.specs.declared.limits.TheConstants.{RANGE_LIMIT, NUMBER_LIMIT}
 use Rattle.nutdriver.specs.declared.line.DriverLine.{DriverLine}
-use Rattle.nutdriver.specs.declared.line.DriverLine.TheVariants.{SetInfo, DelInfo, AddEnum, DelEnum}
-use Rattle.nutdriver.specs.declared.line.DriverLine.TheVariants.{AddRange, DelRange, SetAux}
-use Rattle.nutdriver.specs.declared.line.DriverLine.TheVariants.{SetFlags, AddCmd, DelCmd, Tracking}
+use Rattle.nutdriver.specs.declared.line.DriverLine.TheVariants as lines
 use Rattle.nutdriver.specs.declared.range.Range.{Range}
 use Rattle.nutdriver.specs.declared.report.Report.{Report}
 use Rattle.nutdriver.specs.Variable.{VariableState}
@@ -52,17 +50,17 @@ pub record IsSoundTree (tree : TreeState) : Type 0 where
 
 -- What the line names and gives is lawful, as of every line that was read.
 abbrev pub IsLawfulLine : DriverLine → Type 0
-IsLawfulLine (SetInfo name value) = IsTrue (is_name name) × IsTrue (is_value value)
-IsLawfulLine (DelInfo name) = IsTrue (is_name name)
-IsLawfulLine (AddEnum name value) = IsTrue (is_name name) × IsTrue (is_value value)
-IsLawfulLine (DelEnum name value) = IsTrue (is_name name) × IsTrue (is_value value)
-IsLawfulLine (AddRange name range) = IsTrue (is_name name) × IsSoundRange range
-IsLawfulLine (DelRange name range) = IsTrue (is_name name) × IsSoundRange range
-IsLawfulLine (SetAux name aux) = IsTrue (is_name name) × (aux ≤ NUMBER_LIMIT)
-IsLawfulLine (SetFlags name flags) = IsTrue (is_name name)
-IsLawfulLine (AddCmd name) = IsTrue (is_name name)
-IsLawfulLine (DelCmd name) = IsTrue (is_name name)
-IsLawfulLine (Tracking id number) = number ≤ NUMBER_LIMIT
+IsLawfulLine (lines.SetInfo name value) = IsTrue (is_name name) × IsTrue (is_value value)
+IsLawfulLine (lines.DelInfo name) = IsTrue (is_name name)
+IsLawfulLine (lines.AddEnum name value) = IsTrue (is_name name) × IsTrue (is_value value)
+IsLawfulLine (lines.DelEnum name value) = IsTrue (is_name name) × IsTrue (is_value value)
+IsLawfulLine (lines.AddRange name range) = IsTrue (is_name name) × IsSoundRange range
+IsLawfulLine (lines.DelRange name range) = IsTrue (is_name name) × IsSoundRange range
+IsLawfulLine (lines.SetAux name aux) = IsTrue (is_name name) × (aux ≤ NUMBER_LIMIT)
+IsLawfulLine (lines.SetFlags name flags) = IsTrue (is_name name)
+IsLawfulLine (lines.AddCmd name) = IsTrue (is_name name)
+IsLawfulLine (lines.DelCmd name) = IsTrue (is_name name)
+IsLawfulLine (lines.Tracking id number) = number ≤ NUMBER_LIMIT
 IsLawfulLine _ = ⊤
 
 abbrev pub ReadLinesAreLawful : Type 0

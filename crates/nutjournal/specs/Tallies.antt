@@ -1,6 +1,7 @@
 -- The lines of a second, by what they are of.
 use Rattle.std.specs.Prelude.{◌≡◌, ℕ, ◌+◌, ◌++◌, take, drop, Bool, false, true, map, List, [], ◌∷◌}
-use Rattle.std.specs.Prelude.{if◌then◌else◌, ◌==◌, ◌&&◌, nat_lt, length, slice_get, slice_set, unwrap_or, fold, Option, Some}
+use Rattle.std.specs.Prelude.{if◌then◌else◌, ◌==◌, ◌&&◌, nat_lt, length, slice_get, slice_set}
+use Rattle.std.specs.Prelude.{unwrap_or, fold, Option, Some}
 use Rattle.std.specs.List.{position_or_len}
 use Rattle.std.specs.Option.{option_map_or}
 use Rattle.std.specs.Str.{bytes_eq}

@@ -1,6 +1,7 @@
 -- Which lines of a UPS, or of a client's address, are logged, and which are counted.
 use Rattle.std.specs.Prelude.{◌≡◌, ℕ, ◌+◌, ◌-◌, ◌^◌, ◌<◌, ◌==◌, ◌&&◌, ◌||◌, Bool, List, [], ◌∷◌}
-use Rattle.std.specs.Prelude.{◌≢◌, ◌/◌, true, Option, Some, None, if◌then◌else◌, not, nat_lt, min, max, ◌≤◌, length, slice_index, slice_set}
+use Rattle.std.specs.Prelude.{◌≢◌, ◌/◌, true, Option, Some, None, if◌then◌else◌, not, nat_lt, min}
+use Rattle.std.specs.Prelude.{max, ◌≤◌, length, slice_index, slice_set}
 use Rattle.std.specs.Prelude.{nat_eq}
 use Rattle.std.specs.List.{list_any, repeat}
 use Rattle.std.specs.Option.{option_eq}
@@ -8,7 +9,8 @@ use Rattle.nutjournal.specs.declared.tally.Count.{Count}
 use Rattle.nutjournal.specs.declared.tally.Kind.{Kind}
 use Rattle.nutjournal.specs.declared.tally.Kind.TheVariants as kinds
 use Rattle.nutjournal.specs.declared.tally.Tally.{Tally}
-use Rattle.nutjournal.specs.declared.tally.TheConstants.{LINE_LIMIT, ALARM_LIMIT, PLAIN_LIMIT, LOSS_LIMIT, MINUTE}
+use Rattle.nutjournal.specs.declared.tally.TheConstants.{LINE_LIMIT, ALARM_LIMIT, PLAIN_LIMIT}
+use Rattle.nutjournal.specs.declared.tally.TheConstants.{LOSS_LIMIT, MINUTE}
 
 -- The most lines in a second before one of this kind: alarms and orders have one more than all
 -- else, and a forced shutdown one more than these.

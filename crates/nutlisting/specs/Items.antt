@@ -11,8 +11,7 @@ use Rattle.nutusers.specs.UpsList.{Ups}
 use Rattle.nutlisting.specs.Shown.{shown, ups_description}
 use Rattle.nutdriver.specs.Tree.{variable_at}
 use Rattle.nutlisting.specs.declared.listing.Content.{Content}
-use Rattle.nutlisting.specs.declared.listing.Content.TheVariants.{Upses, Variables, Rw, Commands}
-use Rattle.nutlisting.specs.declared.listing.Content.TheVariants.{EnumValues, Ranges, Clients}
+use Rattle.nutlisting.specs.declared.listing.Content.TheVariants as contents
 
 -- A listing: its kind, the names asked for, and the words of each item.
 pub record ListingState : Type 0 where
@@ -117,13 +116,13 @@ client_listing ups addresses =
     record { kind = codes "CLIENT"; names = ups ∷ []; items = map (client_item ups) addresses }
 
 abbrev pub listing_of : Content → ListingState
-listing_of (Upses list) = ups_listing list
-listing_of (Variables ups fsd tree) = variable_listing ups fsd tree.variables
-listing_of (Rw ups fsd tree) = rw_listing ups fsd tree.variables
-listing_of (Commands ups tree) = command_listing ups tree.commands
-listing_of (EnumValues ups name tree) = enum_listing ups name (variable_at tree name)
-listing_of (Ranges ups name tree) = range_listing ups name (variable_at tree name)
-listing_of (Clients ups addresses) = client_listing ups addresses
+listing_of (contents.Upses list) = ups_listing list
+listing_of (contents.Variables ups fsd tree) = variable_listing ups fsd tree.variables
+listing_of (contents.Rw ups fsd tree) = rw_listing ups fsd tree.variables
+listing_of (contents.Commands ups tree) = command_listing ups tree.commands
+listing_of (contents.EnumValues ups name tree) = enum_listing ups name (variable_at tree name)
+listing_of (contents.Ranges ups name tree) = range_listing ups name (variable_at tree name)
+listing_of (contents.Clients ups addresses) = client_listing ups addresses
 
 -- A listing, how many of its lines are done, and how many bytes of the next line.
 pub record Position : Type 0 where

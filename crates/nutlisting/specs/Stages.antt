@@ -6,8 +6,7 @@ use Rattle.nutwords.specs.Frame.{line_of}
 use Rattle.nutmap.specs.Entries.{entries_after}
 use Rattle.nutdriver.specs.Tree.{byte_order, variable_at}
 use Rattle.nutlisting.specs.declared.listing.Content.{Content}
-use Rattle.nutlisting.specs.declared.listing.Content.TheVariants.{Upses, Variables, Rw, Commands}
-use Rattle.nutlisting.specs.declared.listing.Content.TheVariants.{EnumValues, Ranges, Clients}
+use Rattle.nutlisting.specs.declared.listing.Content.TheVariants as contents
 use Rattle.nutlisting.specs.declared.listing.stage.Stage.{Stage}
 use Rattle.nutlisting.specs.declared.listing.stage.Stage.TheVariants.{Start, Names, Items, Done}
 use Rattle.nutlisting.specs.Items.{listing_of}
@@ -28,29 +27,30 @@ Reached = Stage × Option (List ℕ)
 
 -- The items after those that are done.
 abbrev pub items_past : Content → Reached → List (List (List ℕ))
-items_past (Upses list) (Items n, last) = map ups_item (drop n list)
-items_past (Variables ups fsd tree) (Names, last) =
+items_past (contents.Upses list) (Items n, last) = map ups_item (drop n list)
+items_past (contents.Variables ups fsd tree) (Names, last) =
     map (variable_item (codes "VAR") ups fsd) (entries_after byte_order tree.variables last)
-items_past (Rw ups fsd tree) (Names, last) =
+items_past (contents.Rw ups fsd tree) (Names, last) =
     rw_items ups fsd (entries_after byte_order tree.variables last)
-items_past (Commands ups tree) (Names, last) =
+items_past (contents.Commands ups tree) (Names, last) =
     map (command_item ups) (names_after tree.commands last)
-items_past (EnumValues ups name tree) (Items n, last) =
+items_past (contents.EnumValues ups name tree) (Items n, last) =
     map (enum_item ups name) (drop n (enum_values_of (variable_at tree name)))
-items_past (Ranges ups name tree) (Items n, last) =
+items_past (contents.Ranges ups name tree) (Items n, last) =
     map (range_item ups name) (drop n (ranges_of (variable_at tree name)))
-items_past (Clients ups addresses) (Items n, last) = map (client_item ups) (drop n addresses)
+items_past (contents.Clients ups addresses) (Items n, last) =
+    map (client_item ups) (drop n addresses)
 items_past _ _ = []
 
 -- The stage before the first item.
 abbrev pub first_stage : Content → Stage
-first_stage (Upses list) = Items 0
-first_stage (Variables ups fsd tree) = Names
-first_stage (Rw ups fsd tree) = Names
-first_stage (Commands ups tree) = Names
-first_stage (EnumValues ups name tree) = Items 0
-first_stage (Ranges ups name tree) = Items 0
-first_stage (Clients ups addresses) = Items 0
+first_stage (contents.Upses list) = Items 0
+first_stage (contents.Variables ups fsd tree) = Names
+first_stage (contents.Rw ups fsd tree) = Names
+first_stage (contents.Commands ups tree) = Names
+first_stage (contents.EnumValues ups name tree) = Items 0
+first_stage (contents.Ranges ups name tree) = Items 0
+first_stage (contents.Clients ups addresses) = Items 0
 
 -- The lines of the items after those that are done, and END.
 abbrev pub item_lines : Content → Reached → List (List ℕ)

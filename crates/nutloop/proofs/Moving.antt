@@ -21,8 +21,7 @@ use Rattle.nutcore.specs.DriverHistory.{has_driver}
 use Rattle.nutloop.specs.declared.sockets.Ready.{Ready}
 use Rattle.nutloop.specs.declared.sockets.Ready.TheVariants.{Nothing, Tick, Newcomer, Id, DriverUp, Read, Write}
 use Rattle.nutloop.specs.declared.sockets.Call.{Call}
-use Rattle.nutloop.specs.declared.sockets.Call.TheVariants.{Readied, Accepted, Named, Refused, Gave}
-use Rattle.nutloop.specs.declared.sockets.Call.TheVariants.{Waits, Ended, Wrote, Shut}
+use Rattle.nutloop.specs.declared.sockets.Call.TheVariants as calls
 use Rattle.nutloop.specs.declared.turns.TheConstants.{DRIVER_READ_LIMIT}
 use Rattle.nutcore.specs.DriverOrders.{owed_to_driver}
 use Rattle.nutloop.specs.Turn.{nobody, accepts, reads, Answer, unasked, newcomer, gave, later}
@@ -33,13 +32,13 @@ use Rattle.nutloop.specs.Turn.{calls_behind_all, loses_driver}
 use Rattle.nutloop.specs.Moved.{along}
 
 pub record Fit (g : Call → List ℕ) (f : ServerState → Event → List ℕ) : Type 0 where
-  pub readied : (r : Ready) → g (Readied r) ≡ []
-  pub accepted : (a : Option (List ℕ)) → g (Accepted a) ≡ []
-  pub named : (c : ℕ) → g (Named c) ≡ []
-  pub refused : g Refused ≡ []
-  pub waits : (p : Peer) (most : ℕ) → g (Waits p most) ≡ []
-  pub ends : (p : Peer) (most : ℕ) → g (Ended p most) ≡ []
-  pub shut : (p : Peer) → g (Shut p) ≡ []
+  pub readied : (r : Ready) → g (calls.Readied r) ≡ []
+  pub accepted : (a : Option (List ℕ)) → g (calls.Accepted a) ≡ []
+  pub named : (c : ℕ) → g (calls.Named c) ≡ []
+  pub refused : g calls.Refused ≡ []
+  pub waits : (p : Peer) (most : ℕ) → g (calls.Waits p most) ≡ []
+  pub ends : (p : Peer) (most : ℕ) → g (calls.Ended p most) ≡ []
+  pub shut : (p : Peer) → g (calls.Shut p) ≡ []
   pub ups : (s : ServerState) (u : UpsId) → f s (event.DriverUp u) ≡ []
   pub downs : (s : ServerState) (u : UpsId) → f s (event.DriverDown u) ≡ []
   pub ticks : (s : ServerState) (n : ℕ) → f s (event.Tick n) ≡ []
@@ -48,13 +47,13 @@ pub record Fit (g : Call → List ℕ) (f : ServerState → Event → List ℕ) 
   pub closes : (s : ServerState) (c : ℕ) → f s (event.Close c) ≡ []
   pub tries : (s : ServerState) (c : ℕ) → f s (event.Feed c []) ≡ []
   pub feeds : (s : ServerState) (c most : ℕ) (bytes : List ℕ) → length bytes ≤
-      room_at c s → g (Gave (Client c) most bytes) ≡ f s (event.Feed c bytes)
+      room_at c s → g (calls.Gave (Client c) most bytes) ≡ f s (event.Feed c bytes)
   pub comes : (s : ServerState) (u : UpsId) (most : ℕ) (bytes : List ℕ) →
-      g (Gave (Driver u) most bytes) ≡ f s (event.DriverBytes u bytes)
+      g (calls.Gave (Driver u) most bytes) ≡ f s (event.DriverBytes u bytes)
   pub takes : (s : ServerState) (c n : ℕ) (xs : List ℕ) → xs ≡ offered (session c s) →
-      n ≤ length xs → g (Wrote (Client c) xs n) ≡ f s (event.Took c n)
+      n ≤ length xs → g (calls.Wrote (Client c) xs n) ≡ f s (event.Took c n)
   pub driver_takes : (s : ServerState) (u : UpsId) (n : ℕ) (xs : List ℕ) → xs ≡
-      owed_to_driver u s → n ≤ length xs → g (Wrote (Driver u) xs n) ≡ f s (event.DriverTook u n)
+      owed_to_driver u s → n ≤ length xs → g (calls.Wrote (Driver u) xs n) ≡ f s (event.DriverTook u n)
 
 -- One call, and one event.
 one_call : (g : Call → List ℕ) (x : Call) (bytes : List ℕ) → g x ≡ bytes → flat_map g (x ∷ []) ≡ bytes
@@ -68,14 +67,14 @@ one_event f s mid e (o ∷ os) r = append-nil (f s e)
 -- No bytes are in the calls after an event.
 behind_open : (g : Call → List ℕ) (f : ServerState → Event → List ℕ) → Fit g f →
     (a : List ℕ) (o : Outcome) → flat_map g (calls_behind (event.Open a) o) ≡ []
-behind_open g f fit a outcome.Done = one_call g Refused [] fit.refused
-behind_open g f fit a (outcome.Fed n) = one_call g Refused [] fit.refused
-behind_open g f fit a (outcome.Opened c) = one_call g (Named c) [] (fit.named c)
-behind_open g f fit a (outcome.Refused r) = one_call g Refused [] fit.refused
+behind_open g f fit a outcome.Done = one_call g calls.Refused [] fit.refused
+behind_open g f fit a (outcome.Fed n) = one_call g calls.Refused [] fit.refused
+behind_open g f fit a (outcome.Opened c) = one_call g (calls.Named c) [] (fit.named c)
+behind_open g f fit a (outcome.Refused r) = one_call g calls.Refused [] fit.refused
 
 behind_lost : (g : Call → List ℕ) (f : ServerState → Event → List ℕ) → Fit g f →
-    (u : UpsId) (b : Bool) → flat_map g (if b then Shut (Driver u) ∷ [] else []) ≡ []
-behind_lost g f fit u true = one_call g (Shut (Driver u)) [] (fit.shut (Driver u))
+    (u : UpsId) (b : Bool) → flat_map g (if b then calls.Shut (Driver u) ∷ [] else []) ≡ []
+behind_lost g f fit u true = one_call g (calls.Shut (Driver u)) [] (fit.shut (Driver u))
 behind_lost g f fit u false = refl
 
 behind_bytes : (g : Call → List ℕ) (f : ServerState → Event → List ℕ) → Fit g f →
@@ -90,13 +89,13 @@ behind : (g : Call → List ℕ) (f : ServerState → Event → List ℕ) → Fi
 behind g f fit (event.DriverUp u) o = refl
 behind g f fit (event.DriverBytes u piece) o = behind_bytes g f fit u piece o
 behind g f fit (event.DriverTook u n) o = refl
-behind g f fit (event.DriverDown u) o = one_call g (Shut (Driver u)) [] (fit.shut (Driver u))
+behind g f fit (event.DriverDown u) o = one_call g (calls.Shut (Driver u)) [] (fit.shut (Driver u))
 behind g f fit (event.Tick n) o = refl
 behind g f fit (event.Open a) o = behind_open g f fit a o
 behind g f fit (event.Feed c piece) o = refl
 behind g f fit (event.Took c n) o = refl
 behind g f fit (event.Id n) o = refl
-behind g f fit (event.Close c) o = one_call g (Shut (Client c)) [] (fit.shut (Client c))
+behind g f fit (event.Close c) o = one_call g (calls.Shut (Client c)) [] (fit.shut (Client c))
 
 pub behind_all : (g : Call → List ℕ) (f : ServerState → Event → List ℕ) → Fit g f →
     (es : List Event) (os : List Outcome) → flat_map g (calls_behind_all es os) ≡ []
@@ -136,12 +135,12 @@ from_client g f fit s mid c n true answer os e may r =
 from_client g f fit s mid c n false unasked os e may r = absurd may
 from_client g f fit s mid c n false (newcomer a) os e may r = absurd may
 from_client g f fit s mid c n false (gave bytes) os e may r =
-    one_call g (Gave (Client c) n bytes) (f s (event.Feed c bytes))
+    one_call g (calls.Gave (Client c) n bytes) (f s (event.Feed c bytes))
     (fit.feeds s c n bytes (subst (λ k. length bytes ≤ k) e may)) ∙
     sym (one_event f s mid (event.Feed c bytes) os r)
-from_client g f fit s mid c n false later os e may r = one_call g (Waits (Client c) n) [] (fit.waits (Client c) n)
+from_client g f fit s mid c n false later os e may r = one_call g (calls.Waits (Client c) n) [] (fit.waits (Client c) n)
 from_client g f fit s mid c n false ended os e may r =
-    one_call g (Ended (Client c) n) [] (fit.ends (Client c) n) ∙
+    one_call g (calls.Ended (Client c) n) [] (fit.ends (Client c) n) ∙
     sym (one_event f s mid (event.Close c) os r ∙ fit.closes s c)
 from_client g f fit s mid c n false (took k) os e may r = absurd may
 from_client g f fit s mid c n false failed os e may r = sym (one_event f s mid (event.Close c) os r ∙ fit.closes s c)
@@ -157,12 +156,12 @@ from_driver g f fit s mid u false answer os may r =
 from_driver g f fit s mid u true unasked os may r = absurd may
 from_driver g f fit s mid u true (newcomer a) os may r = absurd may
 from_driver g f fit s mid u true (gave bytes) os may r =
-    one_call g (Gave (Driver u) DRIVER_READ_LIMIT bytes) (f s (event.DriverBytes u bytes))
+    one_call g (calls.Gave (Driver u) DRIVER_READ_LIMIT bytes) (f s (event.DriverBytes u bytes))
     (fit.comes s u DRIVER_READ_LIMIT bytes) ∙ sym (one_event f s mid (event.DriverBytes u bytes) os r)
 from_driver g f fit s mid u true later os may r =
-    one_call g (Waits (Driver u) DRIVER_READ_LIMIT) [] (fit.waits (Driver u) DRIVER_READ_LIMIT)
+    one_call g (calls.Waits (Driver u) DRIVER_READ_LIMIT) [] (fit.waits (Driver u) DRIVER_READ_LIMIT)
 from_driver g f fit s mid u true ended os may r =
-    one_call g (Ended (Driver u) DRIVER_READ_LIMIT) [] (fit.ends (Driver u) DRIVER_READ_LIMIT) ∙
+    one_call g (calls.Ended (Driver u) DRIVER_READ_LIMIT) [] (fit.ends (Driver u) DRIVER_READ_LIMIT) ∙
     sym (one_event f s mid (event.DriverDown u) os r ∙ fit.downs s u)
 from_driver g f fit s mid u true (took k) os may r = absurd may
 from_driver g f fit s mid u true failed os may r = sym (one_event f s mid (event.DriverDown u) os r ∙ fit.downs s u)
@@ -182,7 +181,7 @@ to_client g f fit s mid c (x ∷ xs) (gave bytes) os e may r = absurd may
 to_client g f fit s mid c (x ∷ xs) later os e may r = absurd may
 to_client g f fit s mid c (x ∷ xs) ended os e may r = absurd may
 to_client g f fit s mid c (x ∷ xs) (took k) os e may r =
-    one_call g (Wrote (Client c) (x ∷ xs) k) (f s (event.Took c k))
+    one_call g (calls.Wrote (Client c) (x ∷ xs) k) (f s (event.Took c k))
     (fit.takes s c k (x ∷ xs) e may) ∙ sym (one_event f s mid (event.Took c k) os r)
 to_client g f fit s mid c (x ∷ xs) failed os e may r = sym (one_event f s mid (event.Close c) os r ∙ fit.closes s c)
 
@@ -199,7 +198,7 @@ to_driver g f fit s mid u (x ∷ xs) (gave bytes) os e may r = absurd may
 to_driver g f fit s mid u (x ∷ xs) later os e may r = absurd may
 to_driver g f fit s mid u (x ∷ xs) ended os e may r = absurd may
 to_driver g f fit s mid u (x ∷ xs) (took k) os e may r =
-    one_call g (Wrote (Driver u) (x ∷ xs) k) (f s (event.DriverTook u k))
+    one_call g (calls.Wrote (Driver u) (x ∷ xs) k) (f s (event.DriverTook u k))
     (fit.driver_takes s u k (x ∷ xs) e may) ∙ sym (one_event f s mid (event.DriverTook u k) os r)
 to_driver g f fit s mid u (x ∷ xs) failed os e may r =
     sym (one_event f s mid (event.DriverDown u) os r ∙ fit.downs s u)
@@ -212,9 +211,9 @@ of_newcomer : (g : Call → List ℕ) (f : ServerState → Event → List ℕ) �
     (s mid : ServerState) (answer : Answer) (os : List Outcome) → MayAnswer accepts answer →
     Run s (opening answer) os mid → flat_map g (answered accepts answer) ≡ along f s (opening answer) os
 of_newcomer g f fit s mid unasked os may r = absurd may
-of_newcomer g f fit s mid (newcomer None) os may r = one_call g (Accepted None) [] (fit.accepted None)
+of_newcomer g f fit s mid (newcomer None) os may r = one_call g (calls.Accepted None) [] (fit.accepted None)
 of_newcomer g f fit s mid (newcomer (Some a)) os may r =
-    one_call g (Accepted (Some a)) [] (fit.accepted (Some a)) ∙
+    one_call g (calls.Accepted (Some a)) [] (fit.accepted (Some a)) ∙
     sym (one_event f s mid (event.Open a) os r ∙ fit.opens s a may)
 of_newcomer g f fit s mid (gave bytes) os may r = absurd may
 of_newcomer g f fit s mid later os may r = absurd may

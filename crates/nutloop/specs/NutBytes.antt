@@ -1,5 +1,6 @@
 -- The bytes that NUT's server leaves out of what it reads (parseconf.c).
-use Rattle.std.specs.Prelude.{◌≡◌, ◌==◌, ℕ, Bool, true, not, nat_le, List, [], filter, take, Result, Ok}
+use Rattle.std.specs.Prelude.{◌≡◌, ◌==◌, ℕ, Bool, true, not, nat_le, List, [], filter, take}
+use Rattle.std.specs.Prelude.{Result, Ok}
 use Rattle.nutcore.specs.declared.event.Peer.{Peer}
 use Rattle.nutcore.specs.declared.event.Peer.TheVariants.{Client, Driver}
 use Rattle.nutloop.specs.declared.sockets.Got.{Got}

@@ -1,6 +1,8 @@
 -- One pass over all peers, and what holds between two looks at the system.
-use Rattle.std.specs.Prelude.{◌≡◌, ◌⊎◌, ◌+◌, ◌^◌, ◌-◌, ◌<◌, ◌≤◌, ◌==◌, ◌&&◌, ◌||◌, ℕ, Bool, true, false, not}
-use Rattle.std.specs.Prelude.{List, Option, Some, None, if◌then◌else◌, length, min, nat_lt, slice_get}
+use Rattle.std.specs.Prelude.{◌≡◌, ◌⊎◌, ◌+◌, ◌^◌, ◌-◌, ◌<◌, ◌≤◌, ◌==◌, ◌&&◌, ◌||◌, ℕ, Bool, true}
+use Rattle.std.specs.Prelude.{false, not}
+use Rattle.std.specs.Prelude.{List, Option, Some, None, if◌then◌else◌, length, min, nat_lt}
+use Rattle.std.specs.Prelude.{slice_get}
 use Rattle.std.specs.Option.{option_and_then, option_map_or}
 use Rattle.nutusers.specs.UpsList.{id_at}
 use Rattle.nutusers.specs.declared.ups_list.UpsId.{UpsId}
@@ -14,7 +16,9 @@ use Rattle.nutloop.specs.declared.over_mio.pass.Stop.{Stop}
 use Rattle.nutloop.specs.declared.over_mio.pass.Stop.TheVariants as stop
 use Rattle.nutloop.specs.declared.over_mio.pass.Way.{Way}
 use Rattle.nutloop.specs.declared.over_mio.pass.Way.TheVariants.{Read, Write}
-use Rattle.nutloop.specs.declared.over_mio.pass.TheConstants.{CLIENT_READS, CLIENT_WRITES, DRIVER_READS, DRIVER_WRITES, STOPS, TURNS_PER_LOOK}
+use Rattle.nutloop.specs.declared.over_mio.pass.TheConstants.{CLIENT_READS, CLIENT_WRITES}
+use Rattle.nutloop.specs.declared.over_mio.pass.TheConstants.{DRIVER_READS, DRIVER_WRITES, STOPS}
+use Rattle.nutloop.specs.declared.over_mio.pass.TheConstants.{TURNS_PER_LOOK}
 
 -- A client that is owed something is read where its session has room, unless it has ended. One that
 -- is finished is written to, which closes it.

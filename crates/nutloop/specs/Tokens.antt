@@ -3,7 +3,8 @@ use Rattle.std.specs.Prelude.{◌<◌, ◌-◌, ℕ, ⊤, if◌then◌else◌, n
 use Rattle.nutusers.specs.declared.limits.TheConstants.{SESSION_LIMIT}
 use Rattle.nutusers.specs.declared.limits.TheConstants.{UPS_LIMIT}
 use Rattle.nutloop.specs.declared.over_mio.tokens.Source.{Source}
-use Rattle.nutloop.specs.declared.over_mio.tokens.Source.TheVariants.{Listener, Driver, Client, Closing}
+use Rattle.nutloop.specs.declared.over_mio.tokens.Source.TheVariants.{Listener, Driver, Client}
+use Rattle.nutloop.specs.declared.over_mio.tokens.Source.TheVariants.{Closing}
 use Rattle.nutloop.specs.declared.over_mio.tokens.TheConstants.{FIRST_DRIVER, FIRST_CLIENT, CLOSING}
 
 -- The places of drivers and clients are below their limits.

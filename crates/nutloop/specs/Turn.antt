@@ -23,12 +23,10 @@ use Rattle.nutcore.specs.Calls.{room_of, is_finished}
 use Rattle.nutcore.specs.DriverHistory.{has_driver}
 use Rattle.nutcore.specs.DriverOrders.{owed_to_driver}
 use Rattle.nutloop.specs.declared.sockets.Ready.{Ready}
-use Rattle.nutloop.specs.declared.sockets.Ready.TheVariants.{Nothing, Tick, Newcomer, Id}
-use Rattle.nutloop.specs.declared.sockets.Ready.TheVariants.{DriverUp, Read, Write}
+use Rattle.nutloop.specs.declared.sockets.Ready.TheVariants as readies
 use Rattle.nutloop.specs.declared.sockets.Call.{Call}
 use Rattle.nutloop.specs.declared.sockets.Call.TheVariants.{Accepted, Named, Refused, Gave}
-use Rattle.nutloop.specs.declared.sockets.Call.TheVariants.{Waits, Ended, Wrote, Shut}
-use Rattle.nutloop.specs.declared.fault.LoopFault.{LoopFault}
+use Rattle.nutloop.specs.declared.sockets.Call.TheVariants as calls
 use Rattle.nutloop.specs.declared.fault.LoopFault.TheVariants as fault
 use Rattle.nutloop.specs.declared.turns.TheConstants.{DRIVER_READ_LIMIT}
 use Rattle.nutio.specs.Ends.{counted}
@@ -79,15 +77,16 @@ write_of p (x ∷ xs) = writes p (x ∷ xs)
 
 -- Which call a row makes: the rows, by what is ready.
 abbrev pub ask : ServerState → Ready → Ask
-ask s Nothing = nobody
-ask s (Tick seconds) = nobody
-ask s Newcomer = accepts
-ask s (Id id) = nobody
-ask s (DriverUp u) = nobody
-ask s (Read (Client c)) = read_of (Client c) (room_at c s)
-ask s (Read (Driver u)) = if has_driver u s then reads (Driver u) DRIVER_READ_LIMIT else nobody
-ask s (Write (Client c)) = write_of (Client c) (offered (session c s))
-ask s (Write (Driver u)) = write_of (Driver u) (owed_to_driver u s)
+ask s readies.Nothing = nobody
+ask s (readies.Tick seconds) = nobody
+ask s readies.Newcomer = accepts
+ask s (readies.Id id) = nobody
+ask s (readies.DriverUp u) = nobody
+ask s (readies.Read (Client c)) = read_of (Client c) (room_at c s)
+ask s (readies.Read (Driver u)) =
+    if has_driver u s then reads (Driver u) DRIVER_READ_LIMIT else nobody
+ask s (readies.Write (Client c)) = write_of (Client c) (offered (session c s))
+ask s (readies.Write (Driver u)) = write_of (Driver u) (owed_to_driver u s)
 
 -- Which answers that call has; a newcomer's address is lawful. An `accept` that fails is no row:
 -- the
@@ -106,11 +105,11 @@ MayAnswer _ _ = ⊥
 -- What is reported of it: a read asks for so many bytes and no fewer, and a write offers all of
 -- them.
 abbrev pub answered : Ask → Answer → List Call
-answered accepts (newcomer address) = Accepted address ∷ []
-answered (reads p most) (gave bytes) = Gave p most bytes ∷ []
-answered (reads p most) later = Waits p most ∷ []
-answered (reads p most) ended = Ended p most ∷ []
-answered (writes p bytes) (took n) = Wrote p bytes n ∷ []
+answered accepts (newcomer address) = calls.Accepted address ∷ []
+answered (reads p most) (gave bytes) = calls.Gave p most bytes ∷ []
+answered (reads p most) later = calls.Waits p most ∷ []
+answered (reads p most) ended = calls.Ended p most ∷ []
+answered (writes p bytes) (took n) = calls.Wrote p bytes n ∷ []
 answered _ _ = []
 
 -- The events of a row, by the answer. Where nothing is asked of a client that is open, it has no
@@ -149,15 +148,15 @@ opening _ = []
 
 -- The events of each row, one at most.
 abbrev pub row_events : ServerState → Ready → Answer → List Event
-row_events s Nothing answer = []
-row_events s (Tick seconds) answer = event.Tick seconds ∷ []
-row_events s Newcomer answer = opening answer
-row_events s (Id id) answer = event.Id id ∷ []
-row_events s (DriverUp u) answer = event.DriverUp u ∷ []
-row_events s (Read (Client c)) answer = read_of_client s c answer
-row_events s (Read (Driver u)) answer = read_of_driver u answer
-row_events s (Write (Client c)) answer = write_to_client s c answer
-row_events s (Write (Driver u)) answer = write_to_driver u answer
+row_events s readies.Nothing answer = []
+row_events s (readies.Tick seconds) answer = event.Tick seconds ∷ []
+row_events s readies.Newcomer answer = opening answer
+row_events s (readies.Id id) answer = event.Id id ∷ []
+row_events s (readies.DriverUp u) answer = event.DriverUp u ∷ []
+row_events s (readies.Read (Client c)) answer = read_of_client s c answer
+row_events s (readies.Read (Driver u)) answer = read_of_driver u answer
+row_events s (readies.Write (Client c)) answer = write_to_client s c answer
+row_events s (readies.Write (Driver u)) answer = write_to_driver u answer
 
 -- A driver is lost by a line that is too long, and where memory is refused.
 abbrev pub loses_driver : Fault → Bool
@@ -168,12 +167,12 @@ loses_driver _ = false
 -- The calls after an event, which can't fail: a newcomer is named, or refused where no session is
 -- opened; who is gone is shut, and so is a driver that is lost by what it sent.
 abbrev pub calls_behind : Event → Outcome → List Call
-calls_behind (event.Open address) (outcome.Opened c) = Named c ∷ []
-calls_behind (event.Open address) _ = Refused ∷ []
-calls_behind (event.Close c) _ = Shut (Client c) ∷ []
-calls_behind (event.DriverDown u) _ = Shut (Driver u) ∷ []
+calls_behind (event.Open address) (outcome.Opened c) = calls.Named c ∷ []
+calls_behind (event.Open address) _ = calls.Refused ∷ []
+calls_behind (event.Close c) _ = calls.Shut (Client c) ∷ []
+calls_behind (event.DriverDown u) _ = calls.Shut (Driver u) ∷ []
 calls_behind (event.DriverBytes u piece) (outcome.Refused fault) =
-    if loses_driver fault then Shut (Driver u) ∷ [] else []
+    if loses_driver fault then calls.Shut (Driver u) ∷ [] else []
 calls_behind _ _ = []
 
 -- The calls after each of the events.
@@ -229,7 +228,7 @@ ReadyGives s old (Err fault.Accept) new = ⊥
 
 -- A newcomer's row, or `accept` fails.
 abbrev pub NewcomerGives : LoopState → Result (Unit {0}) LoopFault → LoopState → Type 0
-NewcomerGives old (Ok u) new = IsRow Newcomer old new
+NewcomerGives old (Ok u) new = IsRow readies.Newcomer old new
 NewcomerGives old (Err fault.Ready) new = ⊥
 NewcomerGives old (Err fault.Accept) new =
     IsLeft old new × Reports counted old.sockets [] new.sockets
@@ -241,5 +240,6 @@ TurnGives old (Err fault.Ready) new = IsLeft old new × FailsToLook old.sockets 
 TurnGives old (Err fault.Accept) new =
     IsLeft old new
     × ((mid : Told)
-    × Readies (λ a b. IsFound old.server.state Newcomer a b) old.sockets Newcomer mid
+    × Readies (λ a b. IsFound old.server.state readies.Newcomer a b) old.sockets readies.Newcomer
+    mid
     × Reports counted mid [] new.sockets)

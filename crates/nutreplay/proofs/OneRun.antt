@@ -8,9 +8,7 @@ use Rattle.std.proofs.lemmas.Bool.{eqb-true, and_left}
 use Rattle.std.specs.Option.{option_map_or}
 use Rattle.nutusers.specs.declared.ups_list.UpsId.{UpsId}
 use Rattle.nutcore.specs.declared.event.Event.{Event}
-use Rattle.nutcore.specs.declared.event.Event.TheVariants.{DriverUp, DriverBytes, DriverTook}
-use Rattle.nutcore.specs.declared.event.Event.TheVariants.{DriverDown, Tick, Open, Feed, Took}
-use Rattle.nutcore.specs.declared.event.Event.TheVariants.{Close, Id}
+use Rattle.nutcore.specs.declared.event.Event.TheVariants as events
 use Rattle.nutusers.specs.UpsList.{Ups}
 use Rattle.nutusers.specs.Users.{User}
 use Rattle.nutusers.specs.Descriptions.{Descriptions}
@@ -94,55 +92,55 @@ none_either_way true same xs e = when_false same xs e
 none_either_way false same xs e = refl
 
 took_if : (c d n : ℕ) (s : ServerState) (b : Bool) → eqb d c ≡ b →
-    (if eqb d c then taken_in_event d s (Took d n) else []) ≡ taken_in_event c s (Took d n)
+    (if eqb d c then taken_in_event d s (events.Took d n) else []) ≡ taken_in_event c s (events.Took d n)
 unfolding taken_in_event
-took_if c d n s true e = when_true (eqb d c) (taken_in_event d s (Took d n)) e ∙
-    ap (λ (z : ℕ). taken_in_event z s (Took d n)) (eqb-true d c e)
-took_if c d n s false e = when_false (eqb d c) (taken_in_event d s (Took d n)) e ∙
+took_if c d n s true e = when_true (eqb d c) (taken_in_event d s (events.Took d n)) e ∙
+    ap (λ (z : ℕ). taken_in_event z s (events.Took d n)) (eqb-true d c e)
+took_if c d n s false e = when_false (eqb d c) (taken_in_event d s (events.Took d n)) e ∙
     sym (none_either_way (may_take (session d s) n) (eqb d c) (take n (owed_of (session d s))) e)
 
 sent_by : (c : ℕ) (s : ServerState) (e : Event) → sent_to (Client c) (taken_by s e) ≡ taken_in_event c s e
 unfolding taken_in_event
-sent_by c s (DriverUp u) = refl
-sent_by c s (DriverBytes u piece) = refl
-sent_by c s (DriverTook u n) = refl
-sent_by c s (DriverDown u) = refl
-sent_by c s (Tick seconds) = refl
-sent_by c s (Open address) = refl
-sent_by c s (Feed d piece) = refl
-sent_by c s (Took d n) = append-nil (if eqb d c then taken_in_event d s (Took d n) else []) ∙
+sent_by c s (events.DriverUp u) = refl
+sent_by c s (events.DriverBytes u piece) = refl
+sent_by c s (events.DriverTook u n) = refl
+sent_by c s (events.DriverDown u) = refl
+sent_by c s (events.Tick seconds) = refl
+sent_by c s (events.Open address) = refl
+sent_by c s (events.Feed d piece) = refl
+sent_by c s (events.Took d n) = append-nil (if eqb d c then taken_in_event d s (events.Took d n) else []) ∙
     took_if c d n s (eqb d c) refl
-sent_by c s (Close d) = refl
-sent_by c s (Id id) = refl
+sent_by c s (events.Close d) = refl
+sent_by c s (events.Id id) = refl
 
 driver_took_if : (u v : UpsId) (n : ℕ) (s : ServerState) (b : Bool) → eqb v.place u.place ≡
-    b → (if eqb v.place u.place then driver_taken_in_event v s (DriverTook v n) else []) ≡
-    driver_taken_in_event u s (DriverTook v n)
+    b → (if eqb v.place u.place then driver_taken_in_event v s (events.DriverTook v n) else []) ≡
+    driver_taken_in_event u s (events.DriverTook v n)
 driver_took_if u v n s true e =
     let at : ℕ → List ℕ = λ p. if eqb v.place p && option_map_or (driver_may_take n)
     (ups_at p s) false then take n (option_map_or (λ x. x.owed) (ups_at p s) []) else [] in
-    when_true (eqb v.place u.place) (driver_taken_in_event v s (DriverTook v n)) e ∙
+    when_true (eqb v.place u.place) (driver_taken_in_event v s (events.DriverTook v n)) e ∙
     ap at (eqb-true v.place u.place e)
 driver_took_if u v n s false e =
-    when_false (eqb v.place u.place) (driver_taken_in_event v s (DriverTook v n)) e
+    when_false (eqb v.place u.place) (driver_taken_in_event v s (events.DriverTook v n)) e
     ∙
     sym (when_false (eqb v.place u.place && option_map_or (driver_may_take n) (ups_at u.place s)
     false) (take n (owed_to_driver u s)) (and_left _ _ e))
 
 driver_sent_by : (u : UpsId) (s : ServerState) (e : Event) → sent_to (Driver u) (taken_by s e) ≡
     driver_taken_in_event u s e
-driver_sent_by u s (DriverUp v) = refl
-driver_sent_by u s (DriverBytes v piece) = refl
-driver_sent_by u s (DriverTook v n) =
-    append-nil (if eqb v.place u.place then driver_taken_in_event v s (DriverTook v n) else []) ∙
+driver_sent_by u s (events.DriverUp v) = refl
+driver_sent_by u s (events.DriverBytes v piece) = refl
+driver_sent_by u s (events.DriverTook v n) =
+    append-nil (if eqb v.place u.place then driver_taken_in_event v s (events.DriverTook v n) else []) ∙
     driver_took_if u v n s (eqb v.place u.place) refl
-driver_sent_by u s (DriverDown v) = refl
-driver_sent_by u s (Tick seconds) = refl
-driver_sent_by u s (Open address) = refl
-driver_sent_by u s (Feed c piece) = refl
-driver_sent_by u s (Took c n) = refl
-driver_sent_by u s (Close c) = refl
-driver_sent_by u s (Id id) = refl
+driver_sent_by u s (events.DriverDown v) = refl
+driver_sent_by u s (events.Tick seconds) = refl
+driver_sent_by u s (events.Open address) = refl
+driver_sent_by u s (events.Feed c piece) = refl
+driver_sent_by u s (events.Took c n) = refl
+driver_sent_by u s (events.Close c) = refl
+driver_sent_by u s (events.Id id) = refl
 
 opened_joined : (hs is : List Happening) → flat_map opened_by (outcomes_of (hs ++ is)) ≡
     flat_map opened_by (outcomes_of hs) ++ flat_map opened_by (outcomes_of is)

@@ -37,9 +37,7 @@ use Rattle.nutwords.specs.declared.limits.TheConstants.{UPS_NAME_LIMIT, ADDRESS_
 use Rattle.nutusers.specs.declared.ups_list.UpsId.{UpsId}
 use Rattle.nutusers.specs.UpsList.{Ups, IsLawfulUps, IsList, AreByName, place_of, id_at}
 use Rattle.nutcore.specs.declared.event.Event.{Event}
-use Rattle.nutcore.specs.declared.event.Event.TheVariants.{DriverUp, DriverBytes, DriverTook}
-use Rattle.nutcore.specs.declared.event.Event.TheVariants.{DriverDown, Tick, Open, Feed, Took}
-use Rattle.nutcore.specs.declared.event.Event.TheVariants.{Close, Id}
+use Rattle.nutcore.specs.declared.event.Event.TheVariants as happening
 use Rattle.nutcore.specs.declared.event.Peer.{Peer}
 use Rattle.nutcore.specs.declared.event.Peer.TheVariants.{Client, Driver}
 use Rattle.nutreplay.specs.declared.script.action.Action.{Action}
@@ -351,7 +349,8 @@ of_bytes list p part hex who (b ∷ bytes) part_word hex_word word h part_loud h
     (hex_reads digits ∙ ap happens (digits_read p (b ∷ bytes) some h))
 
 module _ (list : List Ups) (l : IsList list) where
-  of_driver : (u : UpsId) (bytes : List ℕ) → Has list u → IsBytes bytes → IsOneLine list (DriverBytes u bytes)
+  of_driver : (u : UpsId) (bytes : List ℕ) → Has list u → IsBytes bytes →
+      IsOneLine list (happening.DriverBytes u bytes)
   of_driver u bytes has h =
       let n = named list l u has in
       of_bytes list (Driver u) (codes "driver-part") (codes "driver-hex") (name_at list u) bytes
@@ -359,7 +358,7 @@ module _ (list : List Ups) (l : IsList list) where
       (λ rest. ap (λ o. happens (sending Part o)) (driver_first list u rest n))
       (λ rest. ap (λ o. happens (sending Hex o)) (driver_first list u rest n))
 
-  of_client : (c : ℕ) (bytes : List ℕ) → c < 2 ^ 64 → IsBytes bytes → IsOneLine list (Feed c bytes)
+  of_client : (c : ℕ) (bytes : List ℕ) → c < 2 ^ 64 → IsBytes bytes → IsOneLine list (happening.Feed c bytes)
   of_client c bytes few h =
       of_bytes list (Client c) (codes "part") (codes "client-hex") (decimal c) bytes refl refl
       (decimal_word c few) h (λ rest. refl) (λ rest. refl) refl
@@ -367,43 +366,45 @@ module _ (list : List Ups) (l : IsList list) where
       (λ rest. ap (λ o. happens (sending Hex o)) (client_first c rest few))
 
   one_line_of : (e : Event) → IsEventOf list e → IsOneLine list e
-  one_line_of (DriverUp u) has =
+  one_line_of (happening.DriverUp u) has =
       let n = named list l u has in
-      one_line list (DriverUp u) (codes "up") (name_at list u) refl
-      (word_is_part (name_at list u) n.word) refl refl (ap (λ o. happens (option_map (λ v. DriverUp v) o)) n.found)
-  one_line_of (DriverDown u) has =
+      one_line list (happening.DriverUp u) (codes "up") (name_at list u) refl
+      (word_is_part (name_at list u) n.word) refl refl
+      (ap (λ o. happens (option_map (λ v. happening.DriverUp v) o)) n.found)
+  one_line_of (happening.DriverDown u) has =
       let n = named list l u has in
-      one_line list (DriverDown u) (codes "down") (name_at list u) refl
-      (word_is_part (name_at list u) n.word) refl refl (ap (λ o. happens (option_map (λ v. DriverDown v) o)) n.found)
-  one_line_of (DriverBytes u bytes) h = of_driver u bytes h.0 h.1
-  one_line_of (DriverTook u n) h =
+      one_line list (happening.DriverDown u) (codes "down") (name_at list u) refl
+      (word_is_part (name_at list u) n.word) refl refl
+      (ap (λ o. happens (option_map (λ v. happening.DriverDown v) o)) n.found)
+  one_line_of (happening.DriverBytes u bytes) h = of_driver u bytes h.0 h.1
+  one_line_of (happening.DriverTook u n) h =
       let name = named list l u h.0 in
-      one_line list (DriverTook u n) (codes "driver-took") (name_at list u ++ 32 ∷ decimal n) refl
+      one_line list (happening.DriverTook u n) (codes "driver-took") (name_at list u ++ 32 ∷ decimal n) refl
       (rest_part (name_at list u) (decimal n) name.word (word_is_part (decimal n) (decimal_word n h.1))) refl
       (ap (λ xs. codes "driver-took " ++ xs) (rest_ends (name_at list u) (decimal n)))
       (ap taking (driver_first list u (decimal n) name) ∙ count_taken (Driver u) n h.1)
-  one_line_of (Tick n) few = one_line list (Tick n) (codes "tick") (decimal n) refl
+  one_line_of (happening.Tick n) few = one_line list (happening.Tick n) (codes "tick") (decimal n) refl
       (word_is_part (decimal n) (decimal_word n few)) refl refl
-      (ap (λ o. happens (option_map (λ k. Tick k) o)) (number_read n few))
-  one_line_of (Open a) lawful =
+      (ap (λ o. happens (option_map (λ k. happening.Tick k) o)) (number_read n few))
+  one_line_of (happening.Open a) lawful =
       let read = read_is is_address_byte false ADDRESS_LIMIT a lawful in
-      one_line list (Open a) (codes "open") a refl
+      one_line list (happening.Open a) (codes "open") a refl
       (word_is_part a (all_more is_address_byte in_word is_word_of_address a read.all)) refl refl
-      (ap (λ r. happens (option_map (λ b. Open b) (result_ok r))) read.is)
-  one_line_of (Feed c bytes) h = of_client c bytes h.0 h.1
-  one_line_of (Took c n) h =
-      one_line list (Took c n) (codes "took") (decimal c ++ 32 ∷ decimal n) refl
+      (ap (λ r. happens (option_map (λ b. happening.Open b) (result_ok r))) read.is)
+  one_line_of (happening.Feed c bytes) h = of_client c bytes h.0 h.1
+  one_line_of (happening.Took c n) h =
+      one_line list (happening.Took c n) (codes "took") (decimal c ++ 32 ∷ decimal n) refl
       (rest_part (decimal c) (decimal n) (decimal_word c h.0) (word_is_part (decimal n) (decimal_word n h.1))) refl
       (ap (λ xs. codes "took " ++ xs) (rest_ends (decimal c) (decimal n)))
       (ap taking (client_first c (decimal n) h.0) ∙ count_taken (Client c) n h.1)
-  one_line_of (Close c) few = one_line list (Close c) (codes "close") (decimal c) refl
+  one_line_of (happening.Close c) few = one_line list (happening.Close c) (codes "close") (decimal c) refl
       (word_is_part (decimal c) (decimal_word c few)) refl refl
-      (ap (λ o. happens (option_map (λ d. Close d) o)) (number_read c few))
-  one_line_of (Id id) few =
-      one_line list (Id id) (codes "id") (id_text id) refl
+      (ap (λ o. happens (option_map (λ d. happening.Close d) o)) (number_read c few))
+  one_line_of (happening.Id id) few =
+      one_line list (happening.Id id) (codes "id") (id_text id) refl
       (word_is_part (id_text id) (all_more is_id_byte in_word is_word_of_id (id_text id)
       (ids_are_plain.digits id))) refl refl
-      (ap (λ o. happens (option_map (λ n. Id n) o)) (written_is_read id few))
+      (ap (λ o. happens (option_map (λ n. happening.Id n) o)) (written_is_read id few))
 
 -- A line of an event says no age.
 no_age : (list : List Ups) (line : List ℕ) (a : Action) → read_line list line ≡ Some a → age_in line ≡ None

@@ -1,6 +1,7 @@
 -- What each line of a replay script means.
 use Rattle.std.specs.Prelude.{ℕ, ◌+◌, ◌-◌, ◌^◌, Bool, List, [], ◌∷◌, ◌++◌, Option}
-use Rattle.std.specs.Prelude.{Some, None, ◌==◌, ◌&&◌, ◌||◌, if◌then◌else◌, length, take, drop, position, codes, is_some, not}
+use Rattle.std.specs.Prelude.{Some, None, ◌==◌, ◌&&◌, ◌||◌, if◌then◌else◌, length, take, drop}
+use Rattle.std.specs.Prelude.{position, codes, is_some, not}
 use Rattle.std.specs.Prelude.{unwrap_or}
 use Rattle.std.specs.Option.{option_and_then, option_map, option_map_or}
 use Rattle.std.specs.Result.{result_ok}
@@ -17,9 +18,7 @@ use Rattle.nutcore.specs.Limits.{read_max_age}
 use Rattle.nutcore.specs.Recording.{came_from}
 use Rattle.nutcore.specs.declared.max_age.TheConstants.{MAX_AGE_DEFAULT, MAX_AGE_MOST}
 use Rattle.nutcore.specs.declared.event.Event.{Event}
-use Rattle.nutcore.specs.declared.event.Event.TheVariants.{DriverUp, DriverBytes, DriverTook}
-use Rattle.nutcore.specs.declared.event.Event.TheVariants.{DriverDown, Tick, Open, Feed, Took}
-use Rattle.nutcore.specs.declared.event.Event.TheVariants.{Close, Id}
+use Rattle.nutcore.specs.declared.event.Event.TheVariants as events
 use Rattle.nutcore.specs.declared.event.Peer.{Peer}
 use Rattle.nutcore.specs.declared.event.Peer.TheVariants.{Client, Driver}
 use Rattle.nutreplay.specs.declared.script.action.TheConstants.{UNLISTED}
@@ -67,8 +66,8 @@ client_and_rest text =
     with_rest (λ digits. option_map (λ c. Client c) (number digits)) (split_at_space text)
 
 abbrev pub took : Peer → ℕ → Event
-took (Client c) n = Took c n
-took (Driver u) n = DriverTook u n
+took (Client c) n = events.Took c n
+took (Driver u) n = events.DriverTook u n
 
 -- So many bytes, or `all`.
 abbrev pub taking : Option (Peer × List ℕ) → Option Action
@@ -95,20 +94,20 @@ sending form (Some parts) = option_map (λ piece. came_from parts.0 piece) (byte
 -- verbs of clients, of the clock and of ids.
 abbrev pub client_event : List ℕ → List ℕ → Option Event
 client_event verb text =
-    if bytes_eq verb (codes "open") then option_map (λ a. Open a) (address text)
+    if bytes_eq verb (codes "open") then option_map (λ a. events.Open a) (address text)
     else if bytes_eq verb (codes "client") then sending Line (client_and_rest text)
     else if bytes_eq verb (codes "part") then sending Part (client_and_rest text)
     else if bytes_eq verb (codes "client-hex") then sending Hex (client_and_rest text)
-    else if bytes_eq verb (codes "close") then option_map (λ c. Close c) (number text)
-    else if bytes_eq verb (codes "tick") then option_map (λ n. Tick n) (number text)
-    else if bytes_eq verb (codes "id") then option_map (λ id. Id id) (read_id text)
+    else if bytes_eq verb (codes "close") then option_map (λ c. events.Close c) (number text)
+    else if bytes_eq verb (codes "tick") then option_map (λ n. events.Tick n) (number text)
+    else if bytes_eq verb (codes "id") then option_map (λ id. events.Id id) (read_id text)
     else None
 
 -- Those of drivers, and the ones above.
 abbrev pub event_of : List Ups → List ℕ → List ℕ → Option Event
 event_of list verb text =
-    if bytes_eq verb (codes "up") then option_map (λ u. DriverUp u) (ups list text)
-    else if bytes_eq verb (codes "down") then option_map (λ u. DriverDown u) (ups list text)
+    if bytes_eq verb (codes "up") then option_map (λ u. events.DriverUp u) (ups list text)
+    else if bytes_eq verb (codes "down") then option_map (λ u. events.DriverDown u) (ups list text)
     else if bytes_eq verb (codes "driver") then sending Line (driver_and_rest list text)
     else if bytes_eq verb (codes "driver-part") then sending Part (driver_and_rest list text)
     else if bytes_eq verb (codes "driver-hex") then sending Hex (driver_and_rest list text)

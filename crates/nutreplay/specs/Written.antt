@@ -12,9 +12,7 @@ use Rattle.nutusers.specs.declared.ups_list.UpsId.{UpsId}
 use Rattle.nutusers.specs.UpsList.{Ups, IsList}
 use Rattle.nutcore.specs.Sound.{IsMaxAge}
 use Rattle.nutcore.specs.declared.event.Event.{Event}
-use Rattle.nutcore.specs.declared.event.Event.TheVariants.{DriverUp, DriverBytes, DriverTook}
-use Rattle.nutcore.specs.declared.event.Event.TheVariants.{DriverDown, Tick, Open, Feed, Took}
-use Rattle.nutcore.specs.declared.event.Event.TheVariants.{Close, Id}
+use Rattle.nutcore.specs.declared.event.Event.TheVariants as event
 use Rattle.nutcore.specs.declared.event.Peer.{Peer}
 use Rattle.nutcore.specs.declared.event.Peer.TheVariants.{Client, Driver}
 use Rattle.nutreplay.specs.declared.script.action.Action.TheVariants.{Happens}
@@ -39,17 +37,17 @@ line_of_bytes list (Driver u) bytes =
 
 -- The line of an event, with its LF: one case a variant.
 abbrev pub line_of : List Ups → Event → List ℕ
-line_of list (DriverUp u) = codes "up " ++ (name_at list u ++ 10 ∷ [])
-line_of list (DriverBytes u bytes) = line_of_bytes list (Driver u) bytes
-line_of list (DriverTook u n) =
+line_of list (event.DriverUp u) = codes "up " ++ (name_at list u ++ 10 ∷ [])
+line_of list (event.DriverBytes u bytes) = line_of_bytes list (Driver u) bytes
+line_of list (event.DriverTook u n) =
     codes "driver-took " ++ (name_at list u ++ (32 ∷ (decimal n ++ 10 ∷ [])))
-line_of list (DriverDown u) = codes "down " ++ (name_at list u ++ 10 ∷ [])
-line_of list (Tick n) = codes "tick " ++ (decimal n ++ 10 ∷ [])
-line_of list (Open a) = codes "open " ++ (a ++ 10 ∷ [])
-line_of list (Feed c bytes) = line_of_bytes list (Client c) bytes
-line_of list (Took c n) = codes "took " ++ (decimal c ++ (32 ∷ (decimal n ++ 10 ∷ [])))
-line_of list (Close c) = codes "close " ++ (decimal c ++ 10 ∷ [])
-line_of list (Id id) = codes "id " ++ (id_text id ++ 10 ∷ [])
+line_of list (event.DriverDown u) = codes "down " ++ (name_at list u ++ 10 ∷ [])
+line_of list (event.Tick n) = codes "tick " ++ (decimal n ++ 10 ∷ [])
+line_of list (event.Open a) = codes "open " ++ (a ++ 10 ∷ [])
+line_of list (event.Feed c bytes) = line_of_bytes list (Client c) bytes
+line_of list (event.Took c n) = codes "took " ++ (decimal c ++ (32 ∷ (decimal n ++ 10 ∷ [])))
+line_of list (event.Close c) = codes "close " ++ (decimal c ++ 10 ∷ [])
+line_of list (event.Id id) = codes "id " ++ (id_text id ++ 10 ∷ [])
 
 -- The first line of a script for a server of this greatest age.
 abbrev pub age_line : ℕ → List ℕ
@@ -73,16 +71,16 @@ abbrev pub Has : List Ups → UpsId → Type 0
 Has list u = IsSome (slice_get list u.place)
 
 abbrev pub IsEventOf : List Ups → Event → Type 0
-IsEventOf list (DriverUp u) = Has list u
-IsEventOf list (DriverBytes u bytes) = Has list u × IsBytes bytes
-IsEventOf list (DriverTook u n) = Has list u × (n < 2 ^ 64)
-IsEventOf list (DriverDown u) = Has list u
-IsEventOf list (Tick n) = n < 2 ^ 64
-IsEventOf list (Open a) = IsTrue (is_address a)
-IsEventOf list (Feed c bytes) = (c < 2 ^ 64) × IsBytes bytes
-IsEventOf list (Took c n) = (c < 2 ^ 64) × (n < 2 ^ 64)
-IsEventOf list (Close c) = c < 2 ^ 64
-IsEventOf list (Id id) = id < 2 ^ 128
+IsEventOf list (event.DriverUp u) = Has list u
+IsEventOf list (event.DriverBytes u bytes) = Has list u × IsBytes bytes
+IsEventOf list (event.DriverTook u n) = Has list u × (n < 2 ^ 64)
+IsEventOf list (event.DriverDown u) = Has list u
+IsEventOf list (event.Tick n) = n < 2 ^ 64
+IsEventOf list (event.Open a) = IsTrue (is_address a)
+IsEventOf list (event.Feed c bytes) = (c < 2 ^ 64) × IsBytes bytes
+IsEventOf list (event.Took c n) = (c < 2 ^ 64) × (n < 2 ^ 64)
+IsEventOf list (event.Close c) = c < 2 ^ 64
+IsEventOf list (event.Id id) = id < 2 ^ 128
 
 -- The script is read as these events of a server of this greatest age, and has no bad line. What
 -- follows it begins a line of its own.

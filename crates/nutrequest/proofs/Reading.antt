@@ -4,9 +4,7 @@ use Rattle.nutwords.specs.SplitLine.{split_line}
 use Rattle.nutio.specs.Ends.{Received}
 use Rattle.nutrequest.specs.Inbox.{FillGives, LineGives}
 use Rattle.nutrequest.specs.declared.faults.ClientFault.{ClientFault}
-use Rattle.nutrequest.specs.declared.faults.ClientFault.TheVariants.{Connect, Read, Write, EarlyEnd}
-use Rattle.nutrequest.specs.declared.faults.ClientFault.TheVariants.{ErrWord, BadReply, BadTarget}
-use Rattle.nutrequest.specs.declared.faults.ClientFault.TheVariants.{Memory}
+use Rattle.nutrequest.specs.declared.faults.ClientFault.TheVariants as faults
 use Rattle.nutio.proofs.PublicLaws.{received_joins, read_failed_joins}
 use Rattle.nutrequest.proofs.Cutting.{first_open}
 use Rattle.nutwords.specs.declared.limits.TheConstants.{LINE_ROOM}
@@ -17,20 +15,20 @@ pub line_fails : {R : Type 0} (remaining : R → Option (List ℕ)) (failures : 
     None → length kept < LINE_ROOM
     → FillGives remaining failures kept mid (Err fault) new after →
     LineGives remaining failures old reader (Err fault) new after
-line_fails remaining failures reader mid after old kept came new EarlyEnd h same none few f = (
+line_fails remaining failures reader mid after old kept came new faults.EarlyEnd h same none few f = (
   came ++ [],
   received_joins remaining failures reader mid after came [] h f.0,
   f.1,
   rw append-nil (first_open (old ++ came) kept same none few),
 )
-line_fails remaining failures reader mid after old kept came new Read h same none few f = (
+line_fails remaining failures reader mid after old kept came new faults.Read h same none few f = (
   came ++ [],
   read_failed_joins remaining failures reader mid after came [] h f,
   rw append-nil (first_open (old ++ came) kept same none few),
 )
-line_fails remaining failures reader mid after old kept came new Connect h same none few f = absurd f
-line_fails remaining failures reader mid after old kept came new Write h same none few f = absurd f
-line_fails remaining failures reader mid after old kept came new (ErrWord w) h same none few f = absurd f
-line_fails remaining failures reader mid after old kept came new BadReply h same none few f = absurd f
-line_fails remaining failures reader mid after old kept came new BadTarget h same none few f = absurd f
-line_fails remaining failures reader mid after old kept came new Memory h same none few f = absurd f
+line_fails remaining failures reader mid after old kept came new faults.Connect h same none few f = absurd f
+line_fails remaining failures reader mid after old kept came new faults.Write h same none few f = absurd f
+line_fails remaining failures reader mid after old kept came new (faults.ErrWord w) h same none few f = absurd f
+line_fails remaining failures reader mid after old kept came new faults.BadReply h same none few f = absurd f
+line_fails remaining failures reader mid after old kept came new faults.BadTarget h same none few f = absurd f
+line_fails remaining failures reader mid after old kept came new faults.Memory h same none few f = absurd f

@@ -16,9 +16,7 @@ use Rattle.nutrequest.specs.declared.request.Request.TheVariants.{List as ListOf
 use Rattle.nutrequest.specs.declared.request.Request.TheVariants.{GetNumAttach, TrackedSetVar}
 use Rattle.nutrequest.specs.declared.request.Request.TheVariants.{TrackedInstcmd, GetTracking}
 use Rattle.nutrequest.specs.declared.faults.ClientFault.{ClientFault}
-use Rattle.nutrequest.specs.declared.faults.ClientFault.TheVariants.{Connect, Read, Write, EarlyEnd}
-use Rattle.nutrequest.specs.declared.faults.ClientFault.TheVariants.{ErrWord, BadReply, BadTarget}
-use Rattle.nutrequest.specs.declared.faults.ClientFault.TheVariants.{Memory}
+use Rattle.nutrequest.specs.declared.faults.ClientFault.TheVariants as faults
 use Rattle.nutio.proofs.PublicLaws.{received_joins, read_failed_joins}
 
 -- no line came: nothing that is read by lines goes on
@@ -27,15 +25,15 @@ pub line_fault : {R : Type 0} (remaining : R → Option (List ℕ)) (failures : 
     → f [] ≡ Unfinished → f (TooLong ∷ []) ≡ Bad →
     LineGives remaining failures kept reader (Err fault) new after →
     Fails remaining failures (λ bs r. f (lines (kept ++ bs)) ≡ r) reader fault after
-line_fault remaining failures f kept new reader after BadReply still bad h =
+line_fault remaining failures f kept new reader after faults.BadReply still bad h =
     (h.0, h.1, λ more. ap f (h.2 more) ∙ bad)
-line_fault remaining failures f kept new reader after EarlyEnd still bad h = (h.0, h.1, h.2, ap f h.3 ∙ still)
-line_fault remaining failures f kept new reader after Read still bad h = (h.0, h.1, ap f h.2 ∙ still)
-line_fault remaining failures f kept new reader after Connect still bad h = absurd h
-line_fault remaining failures f kept new reader after Write still bad h = absurd h
-line_fault remaining failures f kept new reader after (ErrWord w) still bad h = absurd h
-line_fault remaining failures f kept new reader after BadTarget still bad h = absurd h
-line_fault remaining failures f kept new reader after Memory still bad h = absurd h
+line_fault remaining failures f kept new reader after faults.EarlyEnd still bad h = (h.0, h.1, h.2, ap f h.3 ∙ still)
+line_fault remaining failures f kept new reader after faults.Read still bad h = (h.0, h.1, ap f h.2 ∙ still)
+line_fault remaining failures f kept new reader after faults.Connect still bad h = absurd h
+line_fault remaining failures f kept new reader after faults.Write still bad h = absurd h
+line_fault remaining failures f kept new reader after (faults.ErrWord w) still bad h = absurd h
+line_fault remaining failures f kept new reader after faults.BadTarget still bad h = absurd h
+line_fault remaining failures f kept new reader after faults.Memory still bad h = absurd h
 
 -- a fault after a front of the bytes is a fault of all
 pub fails_behind : {R : Type 0} (remaining : R → Option (List ℕ)) (failures : R → ℕ)
@@ -44,25 +42,25 @@ pub fails_behind : {R : Type 0} (remaining : R → Option (List ℕ)) (failures 
     ((more : List ℕ) → F (x ++ more) ≡ H more) →
     Fails remaining failures (λ bs r. H bs ≡ r) mid fault after →
     Fails remaining failures (λ bs r. F bs ≡ r) reader fault after
-fails_behind remaining failures F H x reader mid after (ErrWord w) c h f = (
+fails_behind remaining failures F H x reader mid after (faults.ErrWord w) c h f = (
   x ++ f.0,
   received_joins remaining failures reader mid after x f.0 c f.1,
   λ more. ap F (append_assoc x f.0 more) ∙ h (f.0 ++ more) ∙ f.2 more,
 )
-fails_behind remaining failures F H x reader mid after BadReply c h f = (
+fails_behind remaining failures F H x reader mid after faults.BadReply c h f = (
   x ++ f.0,
   received_joins remaining failures reader mid after x f.0 c f.1,
   λ more. ap F (append_assoc x f.0 more) ∙ h (f.0 ++ more) ∙ f.2 more,
 )
-fails_behind remaining failures F H x reader mid after EarlyEnd c h f =
+fails_behind remaining failures F H x reader mid after faults.EarlyEnd c h f =
     (x ++ f.0, received_joins remaining failures reader mid after x f.0 c f.1, f.2, h f.0 ∙ f.3)
-fails_behind remaining failures F H x reader mid after Read c h f =
+fails_behind remaining failures F H x reader mid after faults.Read c h f =
     (x ++ f.0, read_failed_joins remaining failures reader mid after x f.0 c f.1, h f.0 ∙ f.2)
-fails_behind remaining failures F H x reader mid after Memory c h f =
+fails_behind remaining failures F H x reader mid after faults.Memory c h f =
     (x ++ f.0, received_joins remaining failures reader mid after x f.0 c f.1)
-fails_behind remaining failures F H x reader mid after Connect c h f = absurd f
-fails_behind remaining failures F H x reader mid after Write c h f = absurd f
-fails_behind remaining failures F H x reader mid after BadTarget c h f = absurd f
+fails_behind remaining failures F H x reader mid after faults.Connect c h f = absurd f
+fails_behind remaining failures F H x reader mid after faults.Write c h f = absurd f
+fails_behind remaining failures F H x reader mid after faults.BadTarget c h f = absurd f
 
 -- one line more of the reply
 pub behind : (F : List ℕ → Reply) (f : List FoundLine → Reply) (x y kept new line : List ℕ)
@@ -95,21 +93,21 @@ pub asked_of_reply : {R W : Type 0} (remaining : R → Option (List ℕ)) (failu
 asked_of_reply remaining failures contents write_failures request old new reader after writer sent
     (Ok items) t r = (t, r)
 asked_of_reply remaining failures contents write_failures request old new reader after writer sent
-    (Err Write) t r = absurd r
+    (Err faults.Write) t r = absurd r
 asked_of_reply remaining failures contents write_failures request old new reader after writer sent
-    (Err (ErrWord w)) t r = (t, r)
+    (Err (faults.ErrWord w)) t r = (t, r)
 asked_of_reply remaining failures contents write_failures request old new reader after writer sent
-    (Err BadReply) t r = (t, r)
+    (Err faults.BadReply) t r = (t, r)
 asked_of_reply remaining failures contents write_failures request old new reader after writer sent
-    (Err EarlyEnd) t r = (t, r)
+    (Err faults.EarlyEnd) t r = (t, r)
 asked_of_reply remaining failures contents write_failures request old new reader after writer sent
-    (Err Read) t r = (t, r)
+    (Err faults.Read) t r = (t, r)
 asked_of_reply remaining failures contents write_failures request old new reader after writer sent
-    (Err Connect) t r = absurd r
+    (Err faults.Connect) t r = absurd r
 asked_of_reply remaining failures contents write_failures request old new reader after writer sent
-    (Err BadTarget) t r = absurd r
+    (Err faults.BadTarget) t r = absurd r
 asked_of_reply remaining failures contents write_failures request old new reader after writer sent
-    (Err Memory) t r = (t, r)
+    (Err faults.Memory) t r = (t, r)
 
 -- no request is granted by a line without words
 pub unexpected : (request : Request) → expected_of request [] ≡ None

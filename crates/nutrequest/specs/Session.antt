@@ -8,8 +8,7 @@ use Rattle.nutrequest.specs.Reply.{Reply, Refused, Whole, Bad, Unfinished, reply
 use Rattle.nutrequest.specs.declared.item.Item.{Item}
 use Rattle.nutrequest.specs.declared.request.Request.{Request}
 use Rattle.nutrequest.specs.declared.faults.ClientFault.{ClientFault}
-use Rattle.nutrequest.specs.declared.faults.ClientFault.TheVariants.{Read, Write, EarlyEnd, ErrWord}
-use Rattle.nutrequest.specs.declared.faults.ClientFault.TheVariants.{BadReply, Memory}
+use Rattle.nutrequest.specs.declared.faults.ClientFault.TheVariants as faults
 use Rattle.nutrequest.specs.Inbox.{unread}
 use Rattle.nutrequest.specs.declared.session.Session.{Session}
 
@@ -28,18 +27,18 @@ writer_of session = session.writer
 -- other fault comes.
 abbrev pub Fails : {R : Type 0} → (R → Option (List ℕ)) → (R → ℕ) → (List ℕ → Reply → Type 0) → R
     → ClientFault → R → Type 0
-Fails remaining failures Reads reader (ErrWord word) after =
+Fails remaining failures Reads reader (faults.ErrWord word) after =
     (came : List ℕ) × Received remaining failures reader came after
     × ((more : List ℕ) → Reads (came ++ more) (Refused word))
-Fails remaining failures Reads reader BadReply after =
+Fails remaining failures Reads reader faults.BadReply after =
     (came : List ℕ) × Received remaining failures reader came after
     × ((more : List ℕ) → Reads (came ++ more) Bad)
-Fails remaining failures Reads reader EarlyEnd after =
+Fails remaining failures Reads reader faults.EarlyEnd after =
     (came : List ℕ) × Received remaining failures reader came after × IsAtEnd (remaining after)
     × Reads came Unfinished
-Fails remaining failures Reads reader Read after =
+Fails remaining failures Reads reader faults.Read after =
     (came : List ℕ) × ReadFailed remaining failures reader came after × Reads came Unfinished
-Fails remaining failures Reads reader Memory after =
+Fails remaining failures Reads reader faults.Memory after =
     (came : List ℕ) × Received remaining failures reader came after
 Fails remaining failures Reads reader fault after = ⊥
 
@@ -63,7 +62,7 @@ ReplyGives remaining failures request old =
 abbrev pub AskGives : {R W : Type 0} → (R → Option (List ℕ)) → (R → ℕ) → (W → Option (List ℕ))
     → (W → ℕ) → Request → List ℕ → R → W → Result (List Item) ClientFault → List ℕ → R → W → Type 0
 AskGives remaining failures contents write_failures request old reader writer
-    (Err Write) new after sent =
+    (Err faults.Write) new after sent =
     WriteFailed contents write_failures writer (request_line request) sent × (after ≡ reader)
     × (new ≡ old)
 AskGives remaining failures contents write_failures request old reader writer result new after sent

@@ -6,8 +6,7 @@ use Rattle.std.proofs.lemmas.List.{reverse-reverse}
 use Rattle.nutusers.specs.File.{Format, AreAccepted, verdict_of}
 use Rattle.nutusers.specs.FirstRefusal.{refusal_or, refusal_after, first_refusal, HasOneRefusal}
 use Rattle.nutusers.specs.declared.fault.Cause.{Cause}
-use Rattle.nutusers.specs.declared.fault.Cause.TheVariants.{Malformed, OutsideSection, BadName}
-use Rattle.nutusers.specs.declared.fault.Cause.TheVariants.{Duplicate, UnknownKey, BadValue, Memory}
+use Rattle.nutusers.specs.declared.fault.Cause.TheVariants as causes
 use Rattle.nutusers.proofs.Progress.{reverse-cons}
 
 -- accepted lines are passed over
@@ -20,14 +19,14 @@ refusal-after_accepted format (line ∷ earlier) rest h =
     ∙ refusal-after_accepted format earlier (line ∷ rest) h.1
     ∙ ap (λ fault. refusal_or (length earlier + 1) fault (refusal_after format (line ∷ earlier) rest)) h.0
 
-verdict_of-cause : (cause : Cause) → cause ≢ Memory → verdict_of cause ≡ Some cause
-verdict_of-cause Malformed h = refl
-verdict_of-cause OutsideSection h = refl
-verdict_of-cause BadName h = refl
-verdict_of-cause Duplicate h = refl
-verdict_of-cause UnknownKey h = refl
-verdict_of-cause BadValue h = refl
-verdict_of-cause Memory h = absurd (h refl)
+verdict_of-cause : (cause : Cause) → cause ≢ causes.Memory → verdict_of cause ≡ Some cause
+verdict_of-cause causes.Malformed h = refl
+verdict_of-cause causes.OutsideSection h = refl
+verdict_of-cause causes.BadName h = refl
+verdict_of-cause causes.Duplicate h = refl
+verdict_of-cause causes.UnknownKey h = refl
+verdict_of-cause causes.BadValue h = refl
+verdict_of-cause causes.Memory h = absurd (h refl)
 
 pub has_one_refusal : (format : Format) (adds : List ℕ → Bool) (lines : List (List ℕ)) →
     HasOneRefusal format adds lines

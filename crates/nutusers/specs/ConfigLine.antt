@@ -9,8 +9,7 @@ use Rattle.nutwords.specs.Scan.{read_line}
 use Rattle.nutwords.specs.declared.limits.TheConstants.{LINE_LIMIT}
 use Rattle.nutwords.specs.Word.{bytes_of}
 use Rattle.nutusers.specs.declared.config_line.ConfigLine.{ConfigLine as Given}
-use Rattle.nutusers.specs.declared.config_line.ConfigLine.TheVariants.{Silent, Malformed, Section}
-use Rattle.nutusers.specs.declared.config_line.ConfigLine.TheVariants.{Setting, Upsmon}
+use Rattle.nutusers.specs.declared.config_line.ConfigLine.TheVariants as config_lines
 
 -- The words of a line that says something, unless it is too long or isn't a line of words.
 abbrev pub words_in : List ℕ → Option (List (List ℕ))
@@ -65,8 +64,8 @@ read_config_line line =
 
 -- The line by the bytes of its words.
 abbrev pub line_given : Given → ConfigLine
-line_given Silent = silent
-line_given Malformed = malformed
-line_given (Section name) = section (bytes_of name)
-line_given (Setting key value) = setting (bytes_of key) (bytes_of value)
-line_given (Upsmon role) = upsmon (bytes_of role)
+line_given config_lines.Silent = silent
+line_given config_lines.Malformed = malformed
+line_given (config_lines.Section name) = section (bytes_of name)
+line_given (config_lines.Setting key value) = setting (bytes_of key) (bytes_of value)
+line_given (config_lines.Upsmon role) = upsmon (bytes_of role)

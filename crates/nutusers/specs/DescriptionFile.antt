@@ -12,8 +12,7 @@ use Rattle.nutusers.specs.ConfigLine.{words_in}
 use Rattle.nutwords.specs.NameOrder.{byte_order}
 use Rattle.nutusers.specs.Texts.{is_description}
 use Rattle.nutusers.specs.declared.fault.Cause.{Cause}
-use Rattle.nutusers.specs.declared.fault.Cause.TheVariants.{Malformed, BadName, Duplicate}
-use Rattle.nutusers.specs.declared.fault.Cause.TheVariants.{UnknownKey}
+use Rattle.nutusers.specs.declared.fault.Cause.TheVariants as causes
 
 -- silent: it says nothing. entry: three words, of which the first says what is described.
 pub data TableLine : Type 0 where
@@ -54,18 +53,18 @@ descriptions_of lines =
 -- Why a text is refused beside the earlier ones of its kind.
 abbrev pub text_fault : Texts → List ℕ → List ℕ → Option Cause
 text_fault texts name text =
-    if not (is_name name) then Some BadName
-    else if is_some (text_at texts name) then Some Duplicate
+    if not (is_name name) then Some causes.BadName
+    else if is_some (text_at texts name) then Some causes.Duplicate
     else bad_value_unless (is_description text)
 
 -- Why a line is refused after lines that mean these descriptions.
 abbrev pub table_line_fault : Descriptions → TableLine → Option Cause
 table_line_fault descriptions silent = None
-table_line_fault descriptions malformed = Some Malformed
+table_line_fault descriptions malformed = Some causes.Malformed
 table_line_fault descriptions (entry kind name text) =
     if bytes_eq kind (codes "VARDESC") then text_fault descriptions.vars name text
     else if bytes_eq kind (codes "CMDDESC") then text_fault descriptions.cmds name text
-    else Some UnknownKey
+    else Some causes.UnknownKey
 
 abbrev pub descriptions_format : Format
 descriptions_format earlier line = table_line_fault (descriptions_of earlier) (read_table_line line)

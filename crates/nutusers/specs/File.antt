@@ -2,19 +2,18 @@
 use Rattle.std.specs.Prelude.{◌≡◌, ℕ, ◌+◌, Bool, true, List, [], ◌∷◌, ◌++◌, length, reverse, Option}
 use Rattle.std.specs.Prelude.{None, Some, if◌then◌else◌}
 use Rattle.nutusers.specs.declared.fault.Cause.{Cause}
-use Rattle.nutusers.specs.declared.fault.Cause.TheVariants.{Malformed, OutsideSection, BadName}
-use Rattle.nutusers.specs.declared.fault.Cause.TheVariants.{Duplicate, UnknownKey, BadValue, Memory}
+use Rattle.nutusers.specs.declared.fault.Cause.TheVariants as causes
 use Rattle.nutusers.specs.declared.fault.ConfFault.{ConfFault}
 
 -- A cause's number.
 abbrev pub number_of_cause : Cause → ℕ
-number_of_cause Malformed = 1
-number_of_cause OutsideSection = 2
-number_of_cause BadName = 3
-number_of_cause Duplicate = 4
-number_of_cause UnknownKey = 5
-number_of_cause BadValue = 6
-number_of_cause Memory = 7
+number_of_cause causes.Malformed = 1
+number_of_cause causes.OutsideSection = 2
+number_of_cause causes.BadName = 3
+number_of_cause causes.Duplicate = 4
+number_of_cause causes.UnknownKey = 5
+number_of_cause causes.BadValue = 6
+number_of_cause causes.Memory = 7
 
 -- What a format says of a line that follows earlier ones: why it is refused, if it is. The
 -- earlier lines are listed from the last to the first, here and below.
@@ -29,16 +28,16 @@ AreAccepted format (line ∷ earlier) = (format earlier line ≡ None) × AreAcc
 -- What the format says of a line that is refused for this cause. Memory is refused at lines that
 -- the format accepts.
 abbrev pub verdict_of : Cause → Option Cause
-verdict_of Memory = None
+verdict_of causes.Memory = None
 verdict_of cause = Some cause
 
 -- The value that a key takes is lawful, or why not.
 abbrev pub bad_value_unless : Bool → Option Cause
-bad_value_unless lawful = if lawful then None else Some BadValue
+bad_value_unless lawful = if lawful then None else Some causes.BadValue
 
 -- Why a setting is refused that a section has once: it is there already, or the value isn't lawful.
 abbrev pub once_fault : Bool → Bool → Option Cause
-once_fault is_there lawful = if is_there then Some Duplicate else bad_value_unless lawful
+once_fault is_there lawful = if is_there then Some causes.Duplicate else bad_value_unless lawful
 
 -- The file is refused at the first line that the format refuses, and for its cause; or out of
 -- memory at a line that adds something, which is accepted, as all before it are.
@@ -51,7 +50,7 @@ pub record IsRefused (format : Format) (adds : List ℕ → Bool) (lines : List 
   pub accepted : AreAccepted format earlier
   pub number : fault.line ≡ length earlier + 1
   pub here : format earlier line ≡ verdict_of fault.cause
-  pub memory : fault.cause ≡ Memory → adds line ≡ true
+  pub memory : fault.cause ≡ causes.Memory → adds line ≡ true
 
 -- The file means this: each of its lines is accepted, and this is the meaning of them all.
 pub record Means (format : Format) {A : Type 0} (meaning : List (List ℕ) → A)

@@ -12,8 +12,7 @@ use Rattle.nutusers.specs.UpsList.{IsLawfulUps, AreByName, ups_named}
 pub use Rattle.nutusers.specs.UpsList.{Ups, new_ups, place_of, id_at}
 use Rattle.nutusers.specs.declared.limits.TheConstants.{UPS_LIMIT, SOCKET_LIMIT}
 use Rattle.nutusers.specs.declared.fault.Cause.{Cause}
-use Rattle.nutusers.specs.declared.fault.Cause.TheVariants.{Malformed, BadName, Duplicate}
-use Rattle.nutusers.specs.declared.fault.Cause.TheVariants.{UnknownKey}
+use Rattle.nutusers.specs.declared.fault.Cause.TheVariants as causes
 
 -- The UPS of a section.
 abbrev pub ups_of : List ℕ × List ConfigLine → Ups
@@ -36,8 +35,8 @@ is_socket value = is_text_within SOCKET_LIMIT value && is_utf8 value
 -- Why a section line is refused after lines that mean these UPSs.
 abbrev pub ups_section_fault : List Ups → List ℕ → Option Cause
 ups_section_fault upses name =
-    if not (is_ups_name name) then Some BadName
-    else if is_some (ups_named name upses) then Some Duplicate
+    if not (is_ups_name name) then Some causes.BadName
+    else if is_some (ups_named name upses) then Some causes.Duplicate
     else bad_value_unless (not (nat_le UPS_LIMIT (length upses)))
 
 -- Why `key = value` is refused in the section of this UPS.
@@ -45,15 +44,15 @@ abbrev pub ups_setting_fault : List ℕ → List ℕ → Ups → Option Cause
 ups_setting_fault key value ups =
     if bytes_eq key (codes "desc") then once_fault (is_some ups.desc) (is_description value)
     else if bytes_eq key (codes "socket") then once_fault (is_some ups.socket) (is_socket value)
-    else Some UnknownKey
+    else Some causes.UnknownKey
 
 -- Why a line is refused after lines that mean these UPSs.
 abbrev pub ups_line_fault : List Ups → ConfigLine → Option Cause
 ups_line_fault upses silent = None
-ups_line_fault upses malformed = Some Malformed
+ups_line_fault upses malformed = Some causes.Malformed
 ups_line_fault upses (section name) = ups_section_fault upses name
 ups_line_fault upses (setting key value) = in_section (ups_setting_fault key value) (last_of upses)
-ups_line_fault upses (upsmon role) = Some Malformed
+ups_line_fault upses (upsmon role) = Some causes.Malformed
 
 abbrev pub ups_format : Format
 ups_format earlier line = ups_line_fault (upses_of earlier) (read_config_line line)

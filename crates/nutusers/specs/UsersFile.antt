@@ -12,8 +12,7 @@ use Rattle.nutusers.specs.Credentials.{is_user_name, is_password}
 use Rattle.nutusers.specs.Users.{user_named, may}
 pub use Rattle.nutusers.specs.Users.{User}
 use Rattle.nutusers.specs.declared.fault.Cause.{Cause}
-use Rattle.nutusers.specs.declared.fault.Cause.TheVariants.{Malformed, BadName, Duplicate}
-use Rattle.nutusers.specs.declared.fault.Cause.TheVariants.{UnknownKey}
+use Rattle.nutusers.specs.declared.fault.Cause.TheVariants as causes
 use Rattle.nutusers.specs.declared.rights.Right.{Right}
 
 -- The user of a section.
@@ -45,8 +44,8 @@ RightsComeOfTheOwnSection =
 -- Why a section line is refused after lines that mean these users.
 abbrev pub section_fault : List User → List ℕ → Option Cause
 section_fault users name =
-    if not (is_user_name name) then Some BadName
-    else if is_some (user_named name users) then Some Duplicate
+    if not (is_user_name name) then Some causes.BadName
+    else if is_some (user_named name users) then Some causes.Duplicate
     else None
 
 -- Why `key = value` is refused in the section of this user.
@@ -55,12 +54,12 @@ setting_fault key value user =
     if bytes_eq key (codes "password") then once_fault (is_some user.password) (is_password value)
     else if bytes_eq key (codes "actions") then bad_value_unless (is_some (action_grant value))
     else if bytes_eq key (codes "instcmds") then bad_value_unless (is_some (command_grant value))
-    else Some UnknownKey
+    else Some causes.UnknownKey
 
 -- Why a line is refused after lines that mean these users.
 abbrev pub user_line_fault : List User → ConfigLine → Option Cause
 user_line_fault users silent = None
-user_line_fault users malformed = Some Malformed
+user_line_fault users malformed = Some causes.Malformed
 user_line_fault users (section name) = section_fault users name
 user_line_fault users (setting key value) = in_section (setting_fault key value) (last_of users)
 user_line_fault users (upsmon role) =

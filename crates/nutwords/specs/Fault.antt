@@ -4,17 +4,16 @@ use Rattle.std.specs.Prelude.{IsTrue}
 use Rattle.nutwords.specs.Bytes.{is_lawful, is_quotable, is_bare}
 use Rattle.nutwords.specs.Grammar.{Units, IsBareWord, IsQuotedWord, Reads, ReadsToBoundary}
 use Rattle.nutwords.specs.declared.faults.BadLine.{BadLine}
-use Rattle.nutwords.specs.declared.faults.BadLine.TheVariants.{ControlByte, OpenQuote, QuoteInside}
-use Rattle.nutwords.specs.declared.faults.BadLine.TheVariants.{AfterQuote, LoneBackslash}
+use Rattle.nutwords.specs.declared.faults.BadLine.TheVariants as bad_lines
 
 -- A fault's number: 1 a byte that isn't lawful, 2 an open quote at the end, 3 a quote inside a bare
 -- word, 4 a byte after a closing quote, 5 a lone backslash at the end.
 abbrev pub number_of : BadLine → ℕ
-number_of ControlByte = 1
-number_of OpenQuote = 2
-number_of QuoteInside = 3
-number_of AfterQuote = 4
-number_of LoneBackslash = 5
+number_of bad_lines.ControlByte = 1
+number_of bad_lines.OpenQuote = 2
+number_of bad_lines.QuoteInside = 3
+number_of bad_lines.AfterQuote = 4
+number_of bad_lines.LoneBackslash = 5
 
 -- The bytes begin some line.
 abbrev pub Begins : List ℕ → Type 0
@@ -62,15 +61,16 @@ EndsInQuotedBackslash =
 
 -- The fault of a byte that can't come after these bytes.
 pub data IsByteFault (front : List ℕ) (b : ℕ) : BadLine → Type 0 where
-  control : (IsTrue (is_lawful b) → ⊥) → IsByteFault front b ControlByte
-  quote_inside : b ≡ 34 → EndsInBareWord front → IsByteFault front b QuoteInside
-  after_quote : IsTrue (is_lawful b) → EndsInQuotedWord front → IsByteFault front b AfterQuote
+  control : (IsTrue (is_lawful b) → ⊥) → IsByteFault front b bad_lines.ControlByte
+  quote_inside : b ≡ 34 → EndsInBareWord front → IsByteFault front b bad_lines.QuoteInside
+  after_quote : IsTrue (is_lawful b) → EndsInQuotedWord front →
+      IsByteFault front b bad_lines.AfterQuote
 
 -- The fault of a line of which each byte can be where it is, and that reads as no words.
 pub data IsEndFault (line : List ℕ) : BadLine → Type 0 where
-  bare_backslash : EndsInBareBackslash line → IsEndFault line LoneBackslash
-  quoted_backslash : EndsInQuotedBackslash line → IsEndFault line LoneBackslash
-  open_quote : EndsInOpenQuote line → IsEndFault line OpenQuote
+  bare_backslash : EndsInBareBackslash line → IsEndFault line bad_lines.LoneBackslash
+  quoted_backslash : EndsInQuotedBackslash line → IsEndFault line bad_lines.LoneBackslash
+  open_quote : EndsInOpenQuote line → IsEndFault line bad_lines.OpenQuote
 
 -- The fault of a line: that of the leftmost byte that can't be where it is, else that of its end.
 pub data IsFault (line : List ℕ) (fault : BadLine) : Type 0 where

@@ -5,8 +5,7 @@ use Rattle.clap.specs.declared.parser.matches.ArgMatches.{ArgMatches}
 use Rattle.nutargs.specs.Words.{Excludes, Free, IsFlag, IsGiven, IsMaybe, Row, StandsUnless}
 use Rattle.nutargs.specs.Words.{long_flag, long_option, operand, short_flag}
 use Rattle.nutclient.specs.declared.given.Given.{Given}
-use Rattle.nutclient.specs.declared.given.Given.TheVariants.{Attached, Clients, Descriptions}
-use Rattle.nutclient.specs.declared.given.Given.TheVariants.{Tracked, Upses, Variable, Variables}
+use Rattle.nutclient.specs.declared.given.Given.TheVariants as givens
 
 -- `upsc [-l | -L | -c | --attached | --tracked ID] [UPS|HOST] [VAR]`.
 abbrev pub upsc_words : List Row
@@ -41,19 +40,20 @@ AsksNoClients found = AsksOfAUps found × IsFlag found (codes "c") false
 
 -- What is asked for by the words that were found.
 abbrev pub IsAsked : ArgMatches → Given → Type 0
-IsAsked found (Upses server) = IsFlag found (codes "l") true × IsMaybe found (codes "UPS") server
-IsAsked found (Descriptions server) = IsFlag found (codes "l") false
+IsAsked found (givens.Upses server) = IsFlag found (codes "l") true ×
+    IsMaybe found (codes "UPS") server
+IsAsked found (givens.Descriptions server) = IsFlag found (codes "l") false
     × IsFlag found (codes "L") true × IsMaybe found (codes "UPS") server
-IsAsked found (Clients ups) = AsksOfAUps found × IsFlag found (codes "c") true
+IsAsked found (givens.Clients ups) = AsksOfAUps found × IsFlag found (codes "c") true
     × IsGiven found (codes "UPS") ups
-IsAsked found (Attached ups) = AsksOfAUps found × IsFlag found (codes "c") false
+IsAsked found (givens.Attached ups) = AsksOfAUps found × IsFlag found (codes "c") false
     × IsFlag found (codes "attached") true × IsGiven found (codes "UPS") ups
-IsAsked found (Tracked ups id) = AsksNoClients found × IsGiven found (codes "UPS") ups
+IsAsked found (givens.Tracked ups id) = AsksNoClients found × IsGiven found (codes "UPS") ups
     × (first_value (found_of found) (codes "tracked") ≡ Some id.now)
-IsAsked found (Variable ups name) = AsksNoClients found × IsGiven found (codes "UPS") ups
+IsAsked found (givens.Variable ups name) = AsksNoClients found × IsGiven found (codes "UPS") ups
     × (first_value (found_of found) (codes "tracked") ≡ None)
     × (first_value (found_of found) (codes "VAR") ≡ Some name.now)
-IsAsked found (Variables ups) = AsksNoClients found × IsGiven found (codes "UPS") ups
+IsAsked found (givens.Variables ups) = AsksNoClients found × IsGiven found (codes "UPS") ups
     × (first_value (found_of found) (codes "tracked") ≡ None)
     × (first_value (found_of found) (codes "VAR") ≡ None)
 IsAsked found given = ⊥

@@ -5,8 +5,8 @@ ghost use Rattle.nutclient.specs.declared.program.Program.TheVariants as program
 ghost use Rattle.upsc.specs.Words.{IsAsked, upsc_words};
 
 use clap::ArgMatches;
-use nutclient::{Client, Given, Program, main_of};
 use nutargs::{Word, words};
+use nutclient::{Client, Given, Program, main_of};
 use std::process::ExitCode;
 
 fn main(rt: HostRuntime) -> ExitCode {

@@ -5,8 +5,8 @@ ghost use Rattle.nutclient.specs.declared.program.Program.TheVariants as program
 ghost use Rattle.upscmd.specs.Words.{IsAsked, upscmd_words};
 
 use clap::ArgMatches;
-use nutclient::{Client, Given, Program, Sender, main_of};
 use nutargs::{Word, words};
+use nutclient::{Client, Given, Program, Sender, main_of};
 use std::process::ExitCode;
 
 fn main(rt: HostRuntime) -> ExitCode {

@@ -11,8 +11,8 @@ use super::{Made, Row, ok};
 use crate::checks::{command_value, settable};
 use crate::lines::{order_line_into, push_answer};
 use crate::{Asker, Change, OrderLine, Peers, Reply, View};
-use nutlisting::progress_line_into;
 use nutcommand::{ErrWord, NameWord, UpsWord, ValueWord};
+use nutlisting::progress_line_into;
 use nutusers::{Right, UpsId};
 use nutwords::Line;
 
