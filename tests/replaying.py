@@ -71,10 +71,11 @@ class Bench:
         assert b"tip:" not in faults and b"\n\n\n" not in faults, (words, faults)
 
     def prints_help(self, named, *words, program=None):
-        """It prints a help that has each of these texts."""
+        """It prints a help that has each of these texts, in lines of at most 80 columns."""
         status, printed, faults = self.ends(*words, program=program)
         assert (status, faults) == (0, b""), (words, status, faults)
         assert all(text in printed.decode() for text in named), (words, printed)
+        assert all(len(line) <= 80 for line in printed.decode().splitlines()), printed
 
     def case(self, name, call, *words):
         begun = time.monotonic()
