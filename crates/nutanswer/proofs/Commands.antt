@@ -13,16 +13,16 @@ use Rattle.nutusers.specs.declared.rights.Right.TheVariants as rights
 use Rattle.nutcommand.specs.declared.command.Command.{Command}
 use Rattle.nutcommand.specs.declared.command.Command.TheVariants as commands
 use Rattle.nutcommand.specs.declared.err_word.ErrWord.{ErrWord}
-use Rattle.nutcommand.specs.declared.err_word.ErrWord.TheVariants.{AlreadySetUsername}
-use Rattle.nutcommand.specs.declared.err_word.ErrWord.TheVariants.{AlreadySetPassword}
-use Rattle.nutcommand.specs.declared.err_word.ErrWord.TheVariants.{AlreadyLoggedIn, VarNotSupported}
-use Rattle.nutcommand.specs.declared.err_word.ErrWord.TheVariants.{CmdNotSupported, Readonly, TooLong}
-use Rattle.nutcommand.specs.declared.err_word.ErrWord.TheVariants.{InvalidValue, SetFailed}
-use Rattle.nutcommand.specs.declared.err_word.ErrWord.TheVariants.{InstcmdFailed}
+use Rattle.nutcommand.specs.declared.err_word.ErrWord.TheVariants as errors
 use Rattle.nutanswer.specs.declared.reply.Change.{Change}
 use Rattle.nutanswer.specs.declared.reply.Change.TheVariants as changes
 use Rattle.nutcommand.specs.ErrWord.{error_line}
-use Rattle.nutcommand.specs.declared.err_word.ErrWord.TheVariants as errors
+use Rattle.nutanswer.specs.View.{Seen, AskerSeen, usable, readiness}
+use Rattle.nutanswer.specs.Checks.{◌>>=◌, ◌>>◌, KnownUps, ups_named, user, var_not_lawful}
+use Rattle.nutanswer.specs.Checks.{cmd_not_lawful, already_set_username, already_set_password}
+use Rattle.nutanswer.specs.Checks.{already_logged_in, readonly, command_value, invalid_value}
+use Rattle.nutanswer.specs.Checks.{order_id, set_failed, instcmd_failed, kept_progress, known_command}
+use Rattle.nutanswer.specs.Orders.{is_short_enough, is_listed, is_in_ranges, right_to, set_line}
 use Rattle.nutanswer.specs.Orders.{instcmd_line, order, ok_words, instcmd_right}
 use Rattle.nutanswer.specs.Answer.{Answer, one_line, ok, description_at, answer_to, change_of_answer, text_of_answer}
 use Rattle.nutanswer.specs.Rows.{HasRight, value_given, IsIdOfOrder, EachChangeComesOfItsCommand}

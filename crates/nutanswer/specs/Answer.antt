@@ -13,8 +13,7 @@ use Rattle.nutusers.specs.declared.ups_list.UpsId.{UpsId}
 use Rattle.nutcommand.specs.declared.command.Command.{Command}
 use Rattle.nutcommand.specs.declared.command.Command.TheVariants as commands
 use Rattle.nutcommand.specs.declared.err_word.ErrWord.{ErrWord}
-use Rattle.nutcommand.specs.declared.err_word.ErrWord.TheVariants.{FeatureNotConfigured}
-use Rattle.nutcommand.specs.declared.err_word.ErrWord.TheVariants.{SetFailed, InstcmdFailed}
+use Rattle.nutcommand.specs.declared.err_word.ErrWord.TheVariants as errors
 use Rattle.nutanswer.specs.declared.reply.Change.{Change}
 use Rattle.nutanswer.specs.declared.reply.Change.TheVariants as changes
 use Rattle.nutanswer.specs.declared.reply.Reply.{Reply}
@@ -23,7 +22,8 @@ use Rattle.nutcommand.specs.ErrWord.{error_line}
 use Rattle.nutlisting.specs.Lines.{IsWholeLine}
 use Rattle.nutanswer.specs.View.{Seen, AskerSeen, login_count, addresses_at}
 use Rattle.nutlisting.specs.Shown.{shown, description_of, text_or_unavailable}
-use Rattle.nutcommand.specs.declared.err_word.ErrWord.TheVariants as errors
+use Rattle.nutlisting.specs.Types.{type_words}
+use Rattle.nutlisting.specs.Lines.{progress_words}
 use Rattle.nutlisting.specs.Items.{ListingState, text_of, ups_listing, variable_listing, rw_listing}
 use Rattle.nutlisting.specs.Items.{command_listing, enum_listing, range_listing, client_listing}
 use Rattle.nutanswer.specs.Checks.{◌>>=◌, ◌>>◌, user, known_ups, live, known_variable}

@@ -37,9 +37,9 @@ use Rattle.nutcore.proofs.UpsPlaces.{Stands, of_ups, of_place, server_same}
 use Rattle.nutcore.proofs.DriverChanges.{Does, stays_so, bytes_do, lost, unconnected, goes_on}
 use Rattle.std.specs.Prelude.{nat_le}
 use Rattle.nutcore.specs.declared.event.Outcome.TheVariants.{Done, Opened, Refused, Fed}
-use Rattle.nutcore.specs.declared.event.Fault.TheVariants.{TooManyClients, NotConnected}
-use Rattle.nutcore.specs.declared.event.Fault.TheVariants.{TookTooMuch, AlreadyConnected}
 use Rattle.nutcore.specs.declared.event.Fault.TheVariants as faults
+use Rattle.nuttracking.specs.Tracking.{id_fault}
+use Rattle.nutcore.specs.Happenings.{apart_from_bytes}
 use Rattle.nutcore.proofs.Adding.{session_keeps, pump_adds, took_adds, by_client}
 use Rattle.nutcore.proofs.ApartFromBytes.{core_opened, closed_without}
 use Rattle.nuttracking.specs.declared.tracking.IdFault.{IdFault}

@@ -14,8 +14,8 @@ use Rattle.nutanswer.specs.declared.reply.Change.{Change}
 use Rattle.nutanswer.specs.declared.reply.Change.TheVariants as changes
 use Rattle.nutcommand.specs.Command.{read_command}
 use Rattle.nutcore.specs.declared.note.Note.{Note}
-use Rattle.nutcore.specs.declared.note.Note.TheVariants.{Data, StatusChanged, LineRefused}
 use Rattle.nutcore.specs.declared.note.Note.TheVariants as note_kinds
+use Rattle.nutcore.specs.declared.note.DataState.{DataState}
 use Rattle.nutcore.specs.declared.note.DataState.TheVariants as states
 use Rattle.nutcore.specs.declared.note.Who.{Who}
 use Rattle.nutcore.specs.declared.note.Verb.{Verb}
@@ -23,9 +23,9 @@ use Rattle.nutcore.specs.declared.note.Verb.TheVariants as verbs
 use Rattle.nutcore.specs.declared.TheConstants.{DRIVER_READ_LIMIT}
 use Rattle.nutcore.specs.declared.note.TheConstants.{NOTE_LIMIT}
 use Rattle.nutcore.specs.declared.event.Event.{Event}
-use Rattle.nutcore.specs.declared.event.Event.TheVariants.{DriverUp, DriverBytes, DriverDown, Tick}
-use Rattle.nutcore.specs.declared.event.Event.TheVariants.{Feed, Took, Close}
 use Rattle.nutcore.specs.declared.event.Event.TheVariants as event
+use Rattle.nutcore.specs.declared.event.Outcome.{Outcome}
+use Rattle.nutanswer.specs.View.{Readiness, not_connected, stale, usable, readiness}
 use Rattle.nutusers.specs.UpsList.{id_at}
 use Rattle.nutcore.specs.Ups.{UpsState, is_refused, after_text, after_texts, as_far}
 use Rattle.nutcore.specs.Reports.{with_end, is_unawaited}

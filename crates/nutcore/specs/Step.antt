@@ -9,9 +9,9 @@ use Rattle.nutcore.specs.declared.event.Event.{Event}
 use Rattle.nutcore.specs.declared.event.Event.TheVariants as events
 use Rattle.nutcore.specs.declared.event.Outcome.{Outcome}
 use Rattle.nutcore.specs.declared.event.Outcome.TheVariants.{Done, Fed, Opened, Refused}
-use Rattle.nutcore.specs.declared.event.Fault.TheVariants.{NoSuchClient, TooManyClients}
-use Rattle.nutcore.specs.declared.event.Fault.TheVariants.{TookTooMuch, LineTooLong, Memory}
 use Rattle.nutcore.specs.declared.event.Fault.TheVariants as faults
+use Rattle.nuttracking.specs.Tracking.{id_fault}
+use Rattle.nutcore.specs.Session.{SessionState, new_session, without}
 use Rattle.nutcore.specs.Server.{ServerState, session, with_session_changed}
 use Rattle.nutcore.specs.Parts.{ups_at, with_ups_changed}
 use Rattle.nutcore.specs.Pump.{pumped, after_all_lines, after_lines, is_overlong, wants_memory}

@@ -25,8 +25,8 @@ use Rattle.nutcore.specs.DriverOrders.{owed_to_driver}
 use Rattle.nutloop.specs.declared.sockets.Ready.{Ready}
 use Rattle.nutloop.specs.declared.sockets.Ready.TheVariants as readies
 use Rattle.nutloop.specs.declared.sockets.Call.{Call}
-use Rattle.nutloop.specs.declared.sockets.Call.TheVariants.{Accepted, Named, Refused, Gave}
 use Rattle.nutloop.specs.declared.sockets.Call.TheVariants as calls
+use Rattle.nutloop.specs.declared.fault.LoopFault.{LoopFault}
 use Rattle.nutloop.specs.declared.fault.LoopFault.TheVariants as fault
 use Rattle.nutloop.specs.declared.turns.TheConstants.{DRIVER_READ_LIMIT}
 use Rattle.nutio.specs.Ends.{counted}
