@@ -192,7 +192,7 @@ def missing(page, text, names):
 # How a page is written.
 
 ALL_WORDS, TELLING, CELL = 28_000, 0, 60
-SIZES = {"README.md": 800, "docs/COSTS.md": 930, "docs/ARCHITECTURE.md": 3200, "docs/CONTRIBUTING.md": 2500, "docs/PROVED.md": 5190,
+SIZES = {"README.md": 800, "docs/COSTS.md": 930, "docs/ARCHITECTURE.md": 3200, "docs/CONTRIBUTING.md": 2610, "docs/PROVED.md": 5190,
          "docs/DECISIONS.md": 2200, "docs/GLOSSARY.md": 500}  # fmt: skip
 TELLS = re.compile(r"\b(?:tells?|told)\b", re.I)
 
