@@ -180,6 +180,17 @@ def a_driver_that_took_none_gets_its_orders_again():
         assert driver.line() == b"INSTCMD test.battery.start\n"
 
 
+def what_a_line_did_is_logged_before_it_is_answered():
+    """Within a second too, not only once the next one begins."""
+    refused = "127.0.0.1 was refused FSD: USERNAME-REQUIRED"
+    with served() as (server, _, good):
+        logs(server)
+        for _ in range(3):
+            assert good.ask(b"FSD su\n") == b"ERR USERNAME-REQUIRED\n"
+            server.logged += f"upsd: su: {refused}\n"
+            assert server.journal() == server.logged, server.journal()
+
+
 def a_forced_shutdown_is_seen_and_each_order_of_it_logged():
     with served() as (server, _, good):
         other = server.client()
