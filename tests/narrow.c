@@ -12,6 +12,7 @@
  * WATCHED, UNWATCHED: so many sockets are watched for events, and for so many after them that is refused.
  * ENDS_LATE: no event reports that a peer sends no more, as if it had ended after the events were asked for.
  * WRITABLE: how often poll finds that a socket takes bytes. A connection that begins is found so once.
+ * LATER: by how many seconds the clock goes forward when events are waited for first.
  */
 #define _GNU_SOURCE
 #include <arpa/inet.h>
@@ -27,6 +28,8 @@
 #include <stdlib.h>
 #include <sys/epoll.h>
 #include <sys/socket.h>
+#include <sys/syscall.h>
+#include <time.h>
 #include <unistd.h>
 
 static size_t number_of(const char *name, size_t otherwise)
@@ -119,10 +122,21 @@ int epoll_ctl(int set, int what, int file, struct epoll_event *event)
     return real(set, what, file, event);
 }
 
+static time_t later;
+
+int clock_gettime(clockid_t clock, struct timespec *now)
+{
+    int answer = (int)syscall(SYS_clock_gettime, clock, now);
+    if (clock == CLOCK_MONOTONIC)
+        now->tv_sec += later;
+    return answer;
+}
+
 int epoll_wait(int set, struct epoll_event *events, int most, int wait)
 {
     int (*real)(int, struct epoll_event *, int, int) = dlsym(RTLD_NEXT, "epoll_wait");
     int count = real(set, events, most, wait);
+    later = (time_t)number_of("LATER", 0);
     for (int i = 0; i < count; i++)
         if (getenv("ENDS_LATE"))
             events[i].events &= ~EPOLLRDHUP;

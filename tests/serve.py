@@ -813,6 +813,18 @@ def nothing_due_is_slept_over():
         assert time.monotonic() - begin < 8.2
 
 
+def it_ticks_on_however_long_it_has_run():
+    """A hundred years in its first second, as its record says: its driver is asked still, in each second third of MAXAGE."""
+    later = {**os.environ, "LD_PRELOAD": BENCH.library("narrow.c"), "LATER": "3155760000"}
+    with served(TWO, "--maxage", "3", "--record", path("later"), env=later) as (_, driver, good):
+        for _ in range(3):
+            assert driver.line() == b"PING\n"
+            driver.send(b"PONG\n")
+        assert comes(lambda: good.ask(GET) == STATUS)
+        with open(path("later"), encoding="utf-8") as record:
+            assert "\ntick 31557600" in record.read()
+
+
 def more_clients_than_descriptors_end_nothing():
     with begun(file("alone.conf", "[su]\n"), files=20) as server:
         clients = [server.client() for _ in range(40)]
