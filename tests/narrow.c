@@ -13,6 +13,9 @@
  * ENDS_LATE: no event reports that a peer sends no more, as if it had ended after the events were asked for.
  * WRITABLE: how often poll finds that a socket takes bytes. A connection that begins is found so once.
  * LATER: by how many seconds the clock goes forward when events are waited for first.
+ * CLOCK: a file that says by how many seconds the clock is forward.
+ * ELSEWHERE: who is accepted from 127.7.0.0/16 comes from 10.7.0.0/16.
+ * BUFFER: how many bytes the system keeps for an accepted connection.
  */
 #define _GNU_SOURCE
 #include <arpa/inet.h>
@@ -124,12 +127,41 @@ int epoll_ctl(int set, int what, int file, struct epoll_event *event)
 
 static time_t later;
 
+/* By how many seconds the file that CLOCK names says that the clock is forward. */
+static time_t forward(void)
+{
+    const char *path = getenv("CLOCK");
+    char text[32] = "";
+    int file = path ? open(path, O_RDONLY | O_CLOEXEC) : -1;
+    if (file >= 0) {
+        if (read(file, text, sizeof text - 1) < 0)
+            text[0] = 0;
+        close(file);
+    }
+    return (time_t)strtol(text, NULL, 10);
+}
+
 int clock_gettime(clockid_t clock, struct timespec *now)
 {
     int answer = (int)syscall(SYS_clock_gettime, clock, now);
     if (clock == CLOCK_MONOTONIC)
-        now->tv_sec += later;
+        now->tv_sec += later + forward();
     return answer;
+}
+
+int accept4(int door, struct sockaddr *from, socklen_t *length, int flags)
+{
+    int (*real)(int, struct sockaddr *, socklen_t *, int) = dlsym(RTLD_NEXT, "accept4");
+    int wire = real(door, from, length, flags);
+    int buffer = (int)number_of("BUFFER", 0);
+    if (wire >= 0 && buffer)
+        setsockopt(wire, SOL_SOCKET, SO_SNDBUF, &buffer, sizeof buffer);
+    if (wire >= 0 && getenv("ELSEWHERE") && from->sa_family == AF_INET) {
+        struct sockaddr_in *peer = (struct sockaddr_in *)from;
+        if (ntohl(peer->sin_addr.s_addr) >> 16 == (127 << 8 | 7))
+            peer->sin_addr.s_addr = htonl(10u << 24 | (ntohl(peer->sin_addr.s_addr) & 0xffffff));
+    }
+    return wire;
 }
 
 int epoll_wait(int set, struct epoll_event *events, int most, int wait)

@@ -45,6 +45,7 @@ NO_FILE = "cannot connect: No such file or directory\n"
 REFUSED = "cannot connect: Connection refused\n"
 NEWS = ["driver connected", "status OL", "data good"]
 COME = "".join(f"upsd: su: {line}\n" for line in NEWS)
+BY_ITSELF = "LOGOUT, or a line too long"
 MANY = 4096
 
 
@@ -271,7 +272,7 @@ def of_a_flood_each_line_is_logged_or_counted():
             (lambda server, driver, good: driver.send(b'SETINFO ups.status "OB"\nSETINFO ups.status "OL"\n' * 100),
              ("status OB", "status with OB or LB", 100), ("status OL", "status", 101)),
             (lambda server, driver, good: driver.send(b"DATASTALE\nDATAOK\n" * 100), ("data stale", "data stale", 100), ("data good", "data good", 101)),
-            (lambda server, *_: log_in_and_out(server), ("mon@127.0.0.1 logged in", "logged in", 100), ("mon@127.0.0.1 logged out", "logged out", 100)),
+            (lambda server, *_: log_in_and_out(server), ("mon@127.0.0.1 logged in", "logged in", 100), ("mon@127.0.0.1 logged out: " + BY_ITSELF, "logged out", 100)),
             (lambda server, *_: guess(server), ("mon@127.0.0.1 was refused LOGIN: ACCESS-DENIED", "refused LOGIN", 800))]:
         with served() as (server, driver, good):
             begin = time.monotonic()
@@ -319,9 +320,9 @@ def who_logs_in_or_attaches_is_logged_and_who_leaves():
         # One says so, one is gone. Of who isn't logged in nothing is logged.
         assert good.ask(MON) == b"OK\n" * 2
         assert first.ask(b"DETACH\n") == b"OK Goodbye\n"
-        logs(server, "mon@127.0.0.2 logged out")
+        logs(server, "mon@127.0.0.2 logged out: " + BY_ITSELF)
         second.reset()
-        logs(server, "admin@127.0.0.3 logged out")
+        logs(server, "admin@127.0.0.3 logged out: its connection failed")
 
 
 def a_login_is_logged_with_its_ups():
@@ -340,7 +341,8 @@ def a_login_of_one_piece_is_logged_and_its_end():
                 client.up_to_end()
             client.close()
         assert good.ask(GET) == STATUS
-        logs(server, *["mon@127.0.0.1 logged in", "mon@127.0.0.1 logged out"] * 3)
+        outs = [BY_ITSELF, BY_ITSELF, "its connection ended"]
+        logs(server, *(f"mon@127.0.0.1 logged {what}" for out in outs for what in ("in", f"out: {out}")))
 
 
 def each_ups_is_logged_with_its_own_status():
@@ -567,9 +569,7 @@ def the_sixty_fifth_client_is_closed():
                 assert late.wire.recv(1) == b""
             late.close()
         assert all(other.ask(GET) == STATUS for other in [good, *others])
-        assert comes(lambda: sent_away(server) == 3), server.journal()
-        time.sleep(1.2)
-        assert sent_away(server) == 3, server.journal()
+        assert comes(lambda: 1 <= sent_away(server) <= 3), server.journal()
         others.pop().close()
         assert comes(lambda: is_answered(server.client(), GET, STATUS))
 
@@ -608,9 +608,9 @@ def a_terminal_that_the_server_may_not_open_is_named():
 
 
 def sent_away(server):
-    """How many clients the journal says were sent away: what came in one second is in one line."""
+    """How many clients the journal says were sent away. It says so once a minute."""
     lines = server.journal()[len(COME):].splitlines()
-    assert len(lines) <= 3 and all(line.startswith("upsd: clients sent away for want of room: ") for line in lines), lines
+    assert len(lines) <= 2 and all(line.startswith("upsd: sent away: 127.0.0.1: ") for line in lines), lines
     return sum(int(line.split()[-1]) for line in lines)
 
 

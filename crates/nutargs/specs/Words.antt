@@ -6,7 +6,7 @@ use Rattle.clap.specs.Simple.{new_shape}
 use Rattle.clap.specs.Walk.{is_empty, texts}
 use Rattle.clap.specs.Words.{AddsArg, App, Rule, Text, new_rule, rule_of, with_rule}
 use Rattle.clap.specs.Words.{first_value, found_of, one_text}
-use Rattle.clap.specs.declared.builder.action.ArgAction.TheVariants.{SetTrue}
+use Rattle.clap.specs.declared.builder.action.ArgAction.TheVariants.{Append, SetTrue}
 use Rattle.clap.specs.declared.builder.arg.Arg.{Arg}
 use Rattle.clap.specs.declared.builder.command.Command.{Command}
 use Rattle.clap.specs.declared.parser.matches.ArgMatches.{ArgMatches}
@@ -36,6 +36,11 @@ short_option name letter = record (new_rule name) { short = Some letter; value_n
 abbrev pub long_option : Text → Rule
 long_option name = record (new_rule name) { long = Some name; value_names = 1 }
 
+-- `--name VALUE`, as often as wanted, with this value where it isn't there.
+abbrev pub long_options : Text → Text → Rule
+long_options name value =
+    record (long_option name) { defaults = value ∷ []; action = Some Append }
+
 -- A word without a dash.
 abbrev pub operand : Text → Rule
 operand name = record (new_rule name) { value_names = 1 }
@@ -48,6 +53,7 @@ rule_by_form name (forms.ShortOption letter shown) = short_option name letter
 rule_by_form name (forms.LongOption shown) = long_option name
 rule_by_form name (forms.Preset shown value) =
     record (long_option name) { defaults = value.now ∷ [] }
+rule_by_form name (forms.Presets shown value) = long_options name value.now
 rule_by_form name (forms.Parsed shown parser) = record (long_option name) { parser = Some parser }
 rule_by_form name (forms.Operand shown) = operand name
 

@@ -29,6 +29,8 @@ pub enum Form {
     LongOption(&'static str),
     /// `--name VALUE`, with this value where it isn't there.
     Preset(&'static str, &'static str),
+    /// `--name VALUE`, as often as wanted, with this value where it isn't there.
+    Presets(&'static str, &'static str),
     /// `--name VALUE`, with what the value has to be.
     Parsed(&'static str, ValueParser<'static>),
     /// A word without a dash.
@@ -97,6 +99,11 @@ fn argument(alloc: Global, word: &Word) -> Arg<'static>
         Form::ShortOption(letter, shown) => arg.short(letter).value_name(shown),
         Form::LongOption(shown) => arg.long(word.name).value_name(shown),
         Form::Preset(shown, value) => arg.long(word.name).value_name(shown).default_value(value),
+        Form::Presets(shown, value) => arg
+            .long(word.name)
+            .value_name(shown)
+            .default_value(value)
+            .action(ArgAction::Append),
         Form::Parsed(shown, by) => arg.long(word.name).value_name(shown).value_parser(by),
         Form::Operand(shown) => arg.value_name(shown),
     }

@@ -3,3 +3,4 @@ pub mod Tallies
 pub mod LogBuffer
 pub mod Drivers
 pub mod Waiting
+pub mod Refusals

@@ -20,6 +20,7 @@ limit_of kinds.Stale = ALARM_LIMIT
 limit_of kinds.Alarm = ALARM_LIMIT
 limit_of kinds.LowBattery = ALARM_LIMIT
 limit_of kinds.Order = ALARM_LIMIT
+limit_of kinds.EmptyOrder = ALARM_LIMIT
 limit_of kind = PLAIN_LIMIT
 
 -- The number of a kind.
@@ -37,6 +38,10 @@ number kinds.Order = 9
 number kinds.ForcedShutdown = 10
 number kinds.RefusedLogin = 11
 number kinds.RefusedOrder = 12
+number kinds.Denied = 13
+number kinds.EmptyOrder = 14
+number kinds.Silent = 15
+number kinds.GaveWay = 16
 
 -- A count stops at its greatest number.
 abbrev pub one_more : ℕ → ℕ
@@ -82,7 +87,7 @@ abbrev pub is_reported : Tally → Bool → Bool
 is_reported y is_minute = is_minute || not (is_restless y)
 
 abbrev pub nothing : List ℕ
-nothing = repeat 13 (0 ∷ [])
+nothing = repeat 17 (0 ∷ [])
 
 abbrev pub reported : Tally → Bool → List ℕ
 reported y is_minute = if is_reported y is_minute then y.more else nothing

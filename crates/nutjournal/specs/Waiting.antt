@@ -3,6 +3,8 @@ use Rattle.std.specs.Prelude.{◌≡◌, ℕ, Bool, true, false, List, [], ◌�
 use Rattle.std.specs.Prelude.{is_some}
 use Rattle.std.specs.Prelude.{take}
 use Rattle.std.specs.List.{list_any}
+use Rattle.nutjournal.specs.Refusals.{is_any_refusal_behind}
+use Rattle.nutjournal.specs.declared.doings.Doings.{Doings}
 use Rattle.nutjournal.specs.declared.journal.Journal.{Journal}
 use Rattle.nutjournal.specs.declared.tally.Count.{Count}
 use Rattle.nutjournal.specs.LogBuffer.{has_waiting}
@@ -24,8 +26,9 @@ abbrev pub is_one_behind : List ℕ → List Count → Bool
 is_one_behind (n ∷ ns) (was ∷ weres) = is_behind n was || is_one_behind ns weres
 is_one_behind _ _ = false
 
--- or the record has ended since.
-abbrev pub are_behind : List ℕ → Bool → Journal → Bool
-are_behind counts is_record_cut j =
-    is_one_behind counts j.counts
-    || (if is_record_cut then not j.is_record_cut else j.is_record_cut)
+-- or somebody was sent away of whom nothing was logged, or the record has ended since.
+abbrev pub are_behind : Doings → Journal → Bool
+are_behind doings j =
+    is_one_behind doings.counts j.counts
+    || (is_any_refusal_behind j.refusals
+    || (if doings.is_record_cut then not j.is_record_cut else j.is_record_cut))

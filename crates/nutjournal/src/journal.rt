@@ -4,13 +4,16 @@ ghost use Rattle.nutjournal.specs.Tally.{begins_minute};
 ghost use Rattle.nutjournal.specs.Tallies.{LeadsTo, after_second_of};
 ghost use Rattle.nutjournal.specs.Waiting.{AsksForMore, are_behind, holds};
 
+use crate::doings::{Crowd, Doings, Leave};
 use crate::drivers::{Driver, Drivers, is_any_awaited};
 use crate::log_buffer::{INFO, LogBuffer, WARNING};
+use crate::refusals::{Refusal, Refusals};
 use crate::tallies::{Of, Tallies, is_any_counted};
-use crate::tally::{Count, Kind, MINUTE, begins_minute};
+use crate::tally::{Count, HOUR, Kind, MINUTE, begins_minute};
 use nutargs::Said;
-use nutcore::{DataState, Deed, MaxAge, Note, Server, UpsId, Verb, Who};
-use nutwords::UpsName;
+use nutcommand::ErrWord;
+use nutcore::{DataState, Deed, MaxAge, Note, SESSION_LIMIT, Server, UpsId, Verb, Who};
+use nutwords::{Address, UpsName};
 use std::alloc::AllocError;
 use std::fmt::{self, Display, Formatter, Write};
 use std::io::Error;
@@ -20,8 +23,7 @@ use std::mem;
 const DATA: [Kind; 4] = [Kind::Lost, Kind::Awaited, Kind::Good, Kind::Stale];
 
 /// What is counted beside the server's notes, and whether a line of it comes once a minute at most.
-const COUNTED: [(&str, bool); 3] = [
-    ("clients sent away for want of room", false),
+const COUNTED: [(&str, bool); 2] = [
     ("drivers cut off, out of memory or by an endless line", true),
     ("clients not accepted, without a descriptor or memory", true),
 ];
@@ -36,7 +38,10 @@ pub struct Journal {
     drivers: Drivers,
     /// The greatest age, in seconds.
     max_age: u64,
-    counts: [Count; 3],
+    counts: [Count; 2],
+    refusals: Refusals,
+    /// The hour in which it was logged last who has the places.
+    crowded: Option<u64>,
     is_record_cut: bool,
     /// Something is to be logged in the next second, or later.
     has_more: bool,
@@ -65,36 +70,38 @@ impl Journal {
             tallies: Tallies::new(),
             drivers: [Driver::default(); 256],
             max_age: u64::from(max_age.seconds()),
-            counts: [Count::default(); 3],
+            counts: [Count::default(); 2],
+            refusals: Refusals::default(),
+            crowded: None,
             is_record_cut: false,
             has_more: true,
         })
     }
 
-    /// Logs the notes of the server's last event, or counts them. Where a second begins, it first
-    /// logs what was counted, and all else. Where neither is so it does nothing. The answer is
-    /// whether more is to be logged, for which it is to be called in the next second.
+    /// Logs the notes of the server's last event and what the sockets did, or counts them. Where a
+    /// second begins, it first logs what was counted, and all else. Where neither is so it does
+    /// nothing. The answer is whether more is to be logged, for which it is to be called in the
+    /// next second.
     ///
     /// `error_of` gives the number of the system's error by which the driver of a UPS couldn't be
-    /// connected to. `counts` are, since the start, the clients that were sent away for want of
-    /// room, the drivers that were cut off, and how often no client could be accepted.
-    /// `is_record_cut` is whether the record of events has ended early.
+    /// connected to. `crowd` says who has the places, where three quarters of them are taken.
     #[tactic(auto, using(crate::proofs::Leads::same, crate::proofs::Leads::joined))]
-    pub fn write<E: Fn(UpsId) -> Option<i32>>(
+    pub fn write<E: Fn(UpsId) -> Option<i32>, C: Fn() -> Option<Crowd>>(
         &mut self,
         rt: &HostRuntime,
         server: &Server,
         error_of: E,
-        counts: [u64; 3],
-        is_record_cut: bool,
+        crowd: C,
+        doings: Doings<'_>,
     ) -> bool
-        requires { E.IsAlwaysCallable error_of }
+        requires errors { E.IsAlwaysCallable error_of }
+        requires crowds { C.IsAlwaysCallable crowd }
         ensures moment { self.new.moment ≡ Some server.now.state.moment }
         ensures noted { server.now.notes ≢ [] → self.new.has_more ≡ true }
         ensures held { AsksForMore (length server.now.state.list) self.old
             → AsksForMore (length server.now.state.list) self.new }
         ensures more { result
-            ≡ (self.new.has_more || are_behind counts is_record_cut self.new) }
+            ≡ (self.new.has_more || are_behind doings self.new) }
         // Within a second the tallies only change by lines, each of which is logged or counted.
         ensures goes_on { self.old.moment ≡ Some server.now.state.moment
             → LeadsTo self.old.tallies self.new.tallies }
@@ -108,17 +115,19 @@ impl Journal {
         if was != moment {
             let is_minute = begins_minute(was, server.current_moment());
             self.log_drivers(server, is_minute, error_of);
-            self.log_counts(server.current_moment() / MINUTE, counts, is_record_cut);
+            self.log_counts(server.current_moment() / MINUTE, doings);
+            self.log_crowd(server.current_moment() / HOUR, crowd);
             self.tallies.next_second(server.ups().len(), is_minute);
-        } else if server.notes().is_empty() {
-            return self.has_more || self.is_behind(counts, is_record_cut);
+        } else if server.notes().is_empty() && doings.are_none() {
+            return self.has_more || self.is_behind(doings);
         }
         for note in server.notes() {
-            self.log_note(server, note);
+            self.log_note(server, note, doings.left);
         }
+        self.log_doings(doings);
         self.log.flush(rt);
         self.has_more = !server.notes().is_empty() || self.holds(server.ups().len());
-        self.has_more || self.is_behind(counts, is_record_cut)
+        self.has_more || self.is_behind(doings)
     }
 
     /// Whether something is still to be logged: lines that wait, what was counted of one of so many
@@ -132,17 +141,17 @@ impl Journal {
             || is_any_awaited(&self.drivers[..count])
     }
 
-    /// Whether one of these counts is more than what was logged of it, or the record has ended
-    /// since.
-    fn is_behind(&self, counts: [u64; 3], is_record_cut: bool) -> bool
-        ensures { result ≡ are_behind counts is_record_cut self.now }
+    /// Whether one of these counts is more than what was logged of it, somebody was sent away of
+    /// whom nothing was logged, or the record has ended since.
+    fn is_behind(&self, doings: Doings<'_>) -> bool
+        ensures { result ≡ are_behind doings self.now }
     {
         for place in 0..COUNTED.len() {
-            if self.counts[place].is_behind(counts[place]) {
+            if self.counts[place].is_behind(doings.counts[place]) {
                 return true;
             }
         }
-        is_record_cut != self.is_record_cut
+        self.refusals.is_any_behind() || doings.is_record_cut != self.is_record_cut
     }
 
     /// Logs what is new in this second of the drivers, and what was counted of them, where a minute
@@ -184,9 +193,9 @@ impl Journal {
         }
     }
 
-    /// Logs what was counted of the clients in the last second, what is new in these counts, and
-    /// the end of the record.
-    fn log_counts(&mut self, minute: u64, counts: [u64; 3], is_record_cut: bool)
+    /// Logs what was counted of the clients in the last second, what is new in the counts and of
+    /// the newcomers that were sent away, and the end of the record.
+    fn log_counts(&mut self, minute: u64, doings: Doings<'_>)
         ensures moment { self.new.moment ≡ self.old.moment }
         ensures tallies { self.new.tallies ≡ self.old.tallies }
     {
@@ -201,13 +210,67 @@ impl Journal {
         }
         for place in 0..COUNTED.len() {
             let (what, is_held) = COUNTED[place];
-            if let Some(count) = self.counts[place].more(counts[place], is_held, minute) {
+            if let Some(count) = self.counts[place].more(doings.counts[place], is_held, minute) {
                 log.add(WARNING, None, &format_args!("{what}: {count}"));
             }
         }
-        let due = mem::replace(&mut self.is_record_cut, is_record_cut) != is_record_cut;
+        log_refusals(log, &mut self.refusals, minute);
+        let is_cut = doings.is_record_cut;
+        let due = mem::replace(&mut self.is_record_cut, is_cut) != is_cut;
         let line = "the record has ended, at its limit or by a failed write";
         log.add_if(due, WARNING, None, &line);
+    }
+
+    /// Logs once an hour who has the places, where three quarters of them are taken.
+    fn log_crowd<C: Fn() -> Option<Crowd>>(&mut self, hour: u64, crowd: C)
+        requires { C.IsAlwaysCallable crowd }
+        ensures moment { self.new.moment ≡ self.old.moment }
+        ensures tallies { self.new.tallies ≡ self.old.tallies }
+    {
+        if self.crowded == Some(hour) {
+            return;
+        }
+        if let Some(Crowd {
+            taken,
+            most,
+            address,
+        }) = crowd()
+        {
+            self.crowded = Some(hour);
+            let address = address.as_bytes().escape_ascii();
+            let line = format_args!(
+                "{taken} of {SESSION_LIMIT} places are taken, {most} by {address}"
+            );
+            self.log.add(WARNING, None, &line);
+        }
+    }
+
+    /// Logs that a client was ended for its silence, or counts it, and counts who was sent away.
+    #[tactic(auto, using(crate::proofs::Leads::same))]
+    fn log_doings(&mut self, doings: Doings<'_>)
+        ensures moment { self.new.moment ≡ self.old.moment }
+        ensures tallies { LeadsTo self.old.tallies self.new.tallies }
+    {
+        if let Some(address) = doings.sent_away {
+            self.refusals.add(address);
+        }
+        let Some((address, leave)) = doings.left else {
+            return;
+        };
+        let (of, address) = (Of::Client(address), address.as_bytes().escape_ascii());
+        match leave {
+            Leave::Silent(seconds) => {
+                let line = format_args!("{address} silent for {seconds} s: closed");
+                self.log(of, Kind::Silent, None, &line);
+            }
+            Leave::GaveWay(to, seconds) => {
+                let to = to.as_bytes().escape_ascii();
+                let line =
+                    format_args!("{address} gave way to {to} after {seconds} s of silence");
+                self.log(of, Kind::GaveWay, None, &line);
+            }
+            Leave::Ended | Leave::Failed => {}
+        }
     }
 
     /// Logs a line of this kind, which names the UPS if there is one, or counts it.
@@ -222,7 +285,7 @@ impl Journal {
 
     /// Logs a note of the server, or counts it.
     #[tactic(auto, using(crate::proofs::Leads::same))]
-    fn log_note(&mut self, server: &Server, note: &Note)
+    fn log_note(&mut self, server: &Server, note: &Note, left: Option<(&Address, Leave<'_>)>)
         ensures moment { self.new.moment ≡ self.old.moment }
         ensures tallies { LeadsTo self.old.tallies self.new.tallies }
     {
@@ -255,7 +318,7 @@ impl Journal {
             }
             Note::LoggedOut(u, who) => {
                 let (of, who) = (Of::Client(&who.address), Shown(who));
-                let line = format_args!("{who} logged out");
+                let line = format_args!("{who} logged out: {}", reason_of(left));
                 self.log(of, Kind::LoggedOut, name(u), &line);
             }
             Note::Did(deed) => self.log_deed(deed),
@@ -284,15 +347,16 @@ impl Journal {
                 let line = format_args!("{who} ordered {command}: forced shutdown");
                 self.log(of, Kind::ForcedShutdown, ups, &line);
             }
+            (None, _) if deed.has_empty_value => {
+                let line = format_args!("{who} ordered {command}{space}{name} with an empty value");
+                self.log(of, Kind::EmptyOrder, ups, &line);
+            }
             (None, _) => {
                 let line = format_args!("{who} ordered {command}{space}{name}");
                 self.log(of, Kind::Order, ups, &line);
             }
             (Some(word), verb) => {
-                let kind = match verb {
-                    Verb::Login => Kind::RefusedLogin,
-                    _ => Kind::RefusedOrder,
-                };
+                let kind = kind_of_refusal(verb, word);
                 let word = word.spelling().escape_ascii();
                 let line = format_args!("{who} was refused {command}{space}{name}: {word}");
                 self.log(of, kind, ups, &line);
@@ -306,6 +370,46 @@ fn become_good(notes: &[Note], u: UpsId) -> bool {
     let of = u.place;
     let is_good = |note: &Note| matches!(note, Note::Data(v, DataState::Good) if v.place == of);
     notes.iter().any(is_good)
+}
+
+/// Logs of each address whose newcomers were sent away how many there were, once a minute.
+fn log_refusals(log: &mut LogBuffer, refusals: &mut Refusals, minute: u64) {
+    let Refusals { list, others } = refusals;
+    for refusal in list.iter_mut() {
+        log_refusal(log, refusal, minute);
+    }
+    log_refusal(log, others, minute);
+    refusals.forget(minute);
+}
+
+fn log_refusal(log: &mut LogBuffer, refusal: &mut Refusal, minute: u64) {
+    let Some((address, count)) = refusal.more(minute) else {
+        return;
+    };
+    let address = address.escape_ascii();
+    log.add(WARNING, None, &format_args!("sent away: {address}: {count}"));
+}
+
+/// Why a client is logged out: it left so, or its session ended by itself.
+fn reason_of(left: Option<(&Address, Leave<'_>)>) -> &'static str {
+    match left {
+        None => "LOGOUT, or a line too long",
+        Some((_, Leave::Ended)) => "its connection ended",
+        Some((_, Leave::Failed)) => "its connection failed",
+        Some((_, Leave::Silent(_))) => "it was silent",
+        Some((_, Leave::GaveWay(_, _))) => "it gave way",
+    }
+}
+
+/// What is logged of a refusal: it is a warning where a machine that is to learn of a shutdown, or
+/// to order one, has no right to, or names no UPS.
+fn kind_of_refusal(verb: Verb, word: ErrWord) -> Kind {
+    let is_denied = matches!(word, ErrWord::AccessDenied | ErrWord::UnknownUps);
+    match verb {
+        Verb::Login | Verb::Primary | Verb::Fsd if is_denied => Kind::Denied,
+        Verb::Login => Kind::RefusedLogin,
+        _ => Kind::RefusedOrder,
+    }
 }
 
 /// What is logged of a status: it is an alarm on battery (OB) or with a low battery (LB).

@@ -2,11 +2,14 @@
 //! way to standard error.
 #![tactic(auto)]
 
+mod doings;
 mod drivers;
 mod journal;
 pub mod laws;
 mod log_buffer;
+mod refusals;
 mod tallies;
 mod tally;
 
+pub use doings::{CROWD, Crowd, Doings, Leave};
 pub use journal::Journal;

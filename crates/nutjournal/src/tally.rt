@@ -21,6 +21,9 @@ pub const LOSS_LIMIT: u64 = 2;
 /// In seconds.
 pub const MINUTE: u64 = 60;
 
+/// In seconds.
+pub const HOUR: u64 = 60 * MINUTE;
+
 /// Whether another minute has begun since the second in which the journal was written last,
 /// whatever seconds the clock skipped.
 pub fn begins_minute(was: Option<u64>, now: u64) -> bool
@@ -50,10 +53,19 @@ pub enum Kind {
     ForcedShutdown,
     RefusedLogin,
     RefusedOrder,
+    /// A refused `LOGIN`, `PRIMARY` or `FSD` of who has no right to it, or names no UPS.
+    Denied,
+    /// An order whose value has no bytes.
+    EmptyOrder,
+    Silent,
+    GaveWay,
 }
 
+/// How many kinds there are.
+const KIND_COUNT: usize = 17;
+
 /// The kinds: their texts, their priorities, and how many lines in a second may be before one.
-static KINDS: [(&str, u8, u64); 13] = [
+static KINDS: [(&str, u8, u64); KIND_COUNT] = [
     ("driver lost", WARNING, PLAIN_LIMIT),
     ("driver connected", INFO, PLAIN_LIMIT),
     ("data good", INFO, PLAIN_LIMIT),
@@ -67,6 +79,10 @@ static KINDS: [(&str, u8, u64); 13] = [
     ("forced shutdowns", CRITICAL, LINE_LIMIT),
     ("refused LOGIN", INFO, PLAIN_LIMIT),
     ("refused orders", INFO, PLAIN_LIMIT),
+    ("denied LOGIN, PRIMARY or FSD", WARNING, PLAIN_LIMIT),
+    ("orders with an empty value", WARNING, ALARM_LIMIT),
+    ("silent and closed", INFO, PLAIN_LIMIT),
+    ("gave way", WARNING, PLAIN_LIMIT),
 ];
 
 impl Kind {
@@ -86,7 +102,7 @@ pub struct Tally {
     /// How many lines were logged in this second.
     logged: u64,
     /// How many more there were of each kind, since that was last reported.
-    more: [u64; 13],
+    more: [u64; KIND_COUNT],
 }
 
 impl Tally {
@@ -138,7 +154,7 @@ impl Tally {
         Tally {
             losses: if is_minute { 0 } else { self.losses },
             logged: 0,
-            more: if is_reported { [0; 13] } else { self.more },
+            more: if is_reported { [0; KIND_COUNT] } else { self.more },
         }
     }
 
@@ -185,6 +201,11 @@ impl Count {
         ensures { result ≡ is_behind count self.now }
     {
         count > self.logged
+    }
+
+    /// Whether some were logged in this minute.
+    pub fn is_of(&self, minute: u64) -> bool {
+        self.minute == Some(minute)
     }
 
     /// How many there are since some were logged, where that is logged now: exactly where there are

@@ -5,3 +5,5 @@ pub mod SocketToSocket
 pub mod Fairness
 pub mod InTime
 pub mod Answering
+pub mod Highest
+pub mod Places

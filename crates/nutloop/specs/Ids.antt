@@ -1,5 +1,6 @@
 -- Ids for tracked orders: which are handed in at the start and at ticks.
-use Rattle.std.specs.Prelude.{◌≡◌, ◌+◌, ℕ, suc, ⊤, List, Option, Some, None, length, min}
+use Rattle.std.specs.Prelude.{◌≡◌, ◌+◌, ℕ, suc, ⊤, List, Option, Some, None, length, min, Bool}
+use Rattle.std.specs.Prelude.{if◌then◌else◌}
 use Rattle.std.specs.Int.{w128, from_be_bytes}
 use Rattle.std.specs.Io.KnownBytes.{Consumes}
 use Rattle.nuttracking.specs.declared.limits.TheConstants.{ID_LIMIT}
@@ -23,3 +24,7 @@ GivesNext remaining due old None left new = left ≡ 0
 -- One more is due for each second, and no more than may be available.
 abbrev pub more_due : ℕ → ℕ → ℕ
 more_due seconds due = min (due + seconds) ID_LIMIT
+
+-- How many are due after a tick: all that are missing where that is asked for.
+abbrev pub due_after : Bool → ℕ → ℕ → ℕ → ℕ
+due_after refills missing seconds due = if refills then missing else more_due seconds due

@@ -12,3 +12,7 @@ pub mod SocketToSocket
 pub mod Fairness
 pub mod InTime
 pub mod Tokens
+pub mod Highest
+pub mod Places
+pub mod Doors
+pub mod Closing

@@ -3,7 +3,7 @@ use Rattle.std.specs.Prelude.{◌≡◌, ◌≢◌, ◌⊎◌, ◌==◌, ◌||�
 use Rattle.std.specs.Prelude.{take}
 use Rattle.std.specs.Prelude.{Option, Some, None, Result, Ok, MatchOption, if◌then◌else◌, slice_get}
 use Rattle.std.specs.Io.KnownBytes.{Consumes, Keeps}
-use Rattle.std.specs.Option.{option_and_then, option_map_or}
+use Rattle.std.specs.Option.{option_and_then, option_map, option_map_or}
 use Rattle.nutusers.specs.UpsList.{id_at}
 use Rattle.nutusers.specs.declared.ups_list.UpsId.{UpsId}
 use Rattle.nutcore.specs.declared.event.Peer.{Peer}
@@ -22,12 +22,13 @@ use Rattle.nutloop.specs.declared.over_mio.pass.Stop.{Stop}
 use Rattle.nutloop.specs.declared.over_mio.pass.Stop.TheVariants as stop
 use Rattle.nutloop.specs.declared.over_mio.pass.Way.{Way}
 use Rattle.nutloop.specs.declared.over_mio.pass.Way.TheVariants.{Read, Write}
+use Rattle.nutloop.specs.Doors.{is_knocked_at}
 use Rattle.nutloop.specs.Pass.{HasTurn, IsOver, client_in, may}
 use Rattle.nutloop.specs.Sockets.{Passing, Told}
 
 -- What may be done at a stop of these sockets.
 abbrev pub may_at : {R F : Type 0} → ServerState → MioSockets R F → Stop → Bool
-may_at s sockets = may s sockets.door.is_knocked_at sockets.drivers.items sockets.clients.items
+may_at s sockets = may s (is_knocked_at sockets.entrance) sockets.drivers.items sockets.clients.items
 
 -- The turn of a stop. A driver that the server doesn't know to be connected is
 -- reported first.
@@ -66,10 +67,10 @@ abbrev pub told_of : {R F : Type 0} → MioSockets R F → Told
 told_of sockets =
     record { calls = None; failures = sockets.failures; passing = Some (passing_of sockets) }
 
--- How many newcomers were sent away, and the number of the error by which a driver couldn't be
--- connected to.
-abbrev pub refused : {R F : Type 0} → MioSockets R F → ℕ
-refused sockets = sockets.refusals
+-- The address of the newcomer that has no session yet, and the number of the error by which a
+-- driver couldn't be connected to.
+abbrev pub newcomer_of : {R F : Type 0} → MioSockets R F → Option (List ℕ)
+newcomer_of sockets = option_map (λ x. x.address) sockets.entrance.newcomer
 
 abbrev pub error_of : {R F : Type 0} → MioSockets R F → UpsId → Option ℤ
 error_of sockets u =

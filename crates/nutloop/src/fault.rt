@@ -1,7 +1,17 @@
 //! Why the loop ends.
 ghost use Rattle.std.specs.Prelude.{◌≡◌};
 
+use std::io;
+use std::net::SocketAddr;
 use thiserror::Error;
+
+/// The address that can't be listened at, and why. There is none where memory, the clock or the
+/// system's poll failed.
+#[derive(Drop)]
+pub struct CannotListen {
+    pub address: Option<SocketAddr>,
+    pub error: io::Error,
+}
 
 /// Why the loop can't go on.
 #[derive(Clone, Copy, Debug, Error)]

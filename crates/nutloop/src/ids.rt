@@ -43,6 +43,13 @@ impl<F: Read> Ids<F> {
         None
     }
 
+    /// As many are due as are missing.
+    pub fn refill(&mut self, missing: usize)
+        ensures { self.new ≡ record self.old { due = missing } }
+    {
+        self.due = missing;
+    }
+
     /// After a tick one more is due for each of these seconds, and no more than may be available.
     pub fn tick(&mut self, seconds: u64)
         ensures due { self.new.due ≡ more_due seconds self.old.due }

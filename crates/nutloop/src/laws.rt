@@ -62,7 +62,8 @@ pub fn whoever_asks_learns_in_time<S: Sockets, R: Record>()
 }
 
 /// The bytes of a driver's read and of an id, the turns of a pass, between two looks and of
-/// `serve`, the closing connections and their ticks.
+/// `serve`, the closing connections and their ticks, the addresses that are listened at, and the
+/// silence after which a client gives way.
 pub fn numbers()
     ensures { Numbers }
 {}

@@ -1,13 +1,16 @@
 //! The sockets over `mio`: clients come over TCP, and drivers are connected to over Unix sockets.
-ghost use Rattle.std.specs.Prelude.{◌≡◌, ◌≤◌, ◌*◌, ◌-◌, ◌∷◌, [], IfOk, IfSome, Some, length};
+ghost use Rattle.std.specs.Prelude.{◌≡◌, ◌≤◌, ◌*◌, ◌-◌, ◌∷◌, [], IfErr, IfOk, IfSome, Some, length};
+ghost use Rattle.nutloop.specs.Doors.{is_one_of};
 ghost use Rattle.std.specs.Option.{option_map};
-ghost use Rattle.nutio.specs.Ends.{IsCounted, counted};
+ghost use Rattle.nutio.specs.Ends.{IsCounted};
 ghost use Rattle.nutloop.specs.Sockets.{Answers, AtMost, Begins, Knows, ReportsCall, read_call};
 ghost use Rattle.std.specs.Duration.{as_nanos};
 ghost use Rattle.nutloop.specs.Waking.{Ticks, due_tick, tick_in};
-ghost use Rattle.nutloop.specs.Ids.{more_due};
+ghost use Rattle.nutloop.specs.Ids.{due_after};
+ghost use Rattle.nuttracking.specs.Tracking.{missing_ids};
+ghost use Rattle.nutloop.specs.Places.{Decides, NobodyIsSilent};
 ghost use Rattle.nutloop.specs.NutBytes.{HandsOn};
-ghost use Rattle.nutloop.specs.OverMio.{GivesTurn, TouchesOnly, error_of, passing_of, refused, told_of};
+ghost use Rattle.nutloop.specs.OverMio.{GivesTurn, TouchesOnly, error_of, newcomer_of, passing_of, told_of};
 ghost use Rattle.nutcore.specs.declared.event.Peer.TheVariants.{Client};
 ghost use Rattle.nutloop.specs.Waking.{wake_second};
 ghost use Rattle.nutloop.specs.declared.sockets.Call.TheVariants.{Named, Refused, Shut, Wrote};
@@ -18,21 +21,25 @@ mod door;
 mod drivers;
 mod nut_bytes;
 mod pass;
+mod places;
 mod socket;
 mod tokens;
 
-use crate::Ids;
 use crate::sockets::{Broken, Got, Ready, Sockets};
+use crate::{CannotListen, Ids};
 use arrayvec::ArrayVec;
+pub use clients::Leave;
 use clients::{Clients, place_of, take_in};
 use closing::{CLOSING_LIMIT, Closing, close, first_end, is_any_readable};
-use door::Door;
+pub use door::DOOR_LIMIT;
+use door::{Entrance, Newcomer};
 use drivers::{Driver, Drivers, connect, is_any_absent};
 use mio::{Events, Poll};
 use nut_bytes::keep;
 use nutcore::{ClientId, Peer, Server, Standing, UpsId};
 use nutwords::Address;
 use pass::{Pass, Stop, Way};
+use places::{Admission, admits, end_silent, first_silent, places_at, taken_places, who_has_most};
 use std::alloc::Global;
 use std::io;
 use std::io::Read;
@@ -42,6 +49,35 @@ use tokens::Source;
 
 /// The most events that a poll reports. The next one reports the others.
 const EVENT_LIMIT: usize = 256;
+
+/// What an administrator settles of the sockets.
+#[derive(Clone, Copy)]
+pub struct Rules {
+    /// For so many seconds a client may be silent: then it is ended. Without them it may be for
+    /// ever.
+    pub idle: Option<u64>,
+    /// So many places are kept for clients of this machine.
+    pub kept_places: usize,
+    /// At each tick as many ids are handed in as are missing, and not only one for each second.
+    pub refills_ids: bool,
+    /// What NUT's server leaves out of what it reads is left out here too.
+    pub nut_bytes: bool,
+}
+
+/// A client that left in the last turn.
+#[derive(Drop)]
+pub struct Left {
+    pub address: Address,
+    pub leave: Leave,
+}
+
+/// How many places are taken, and the address that has most of them, with their number.
+#[derive(Clone, Copy)]
+pub struct Crowd<'a> {
+    pub taken: usize,
+    pub most: usize,
+    pub address: &'a Address,
+}
 
 /// The sockets of a server: those of its clients, and of the drivers of its UPSs. They also hand in
 /// the ids for tracked orders. The system and the server hold all bytes.
@@ -54,7 +90,7 @@ pub struct MioSockets<'a, R, F> {
     /// The whole seconds since the start, as the last tick had them.
     second: u64,
     ids: Option<Ids<F>>,
-    door: Door,
+    entrance: Entrance,
     drivers: Drivers,
     clients: Clients,
     closing: Vec<Closing>,
@@ -62,33 +98,61 @@ pub struct MioSockets<'a, R, F> {
     /// The place of the client that had the last turn of a client.
     here: usize,
     failures: u64,
-    refusals: u64,
     cut_off: u64,
-    /// What NUT's server leaves out of what it reads is left out here too.
-    nut_bytes: bool,
+    rules: Rules,
+    /// The client that left in this turn,
+    left: Option<Left>,
+    /// and the newcomer that was sent away in it.
+    sent_away: Option<Address>,
+}
+
+/// What the sockets ask the system for before they listen.
+#[derive(Drop)]
+struct Rooms {
+    start: Instant,
+    poll: Poll,
+    events: Events,
+    closing: Vec<Closing>,
+}
+
+impl Rooms {
+    fn new<R: Net + Clock>(rt: &R, alloc: Global) -> io::Result<Self> {
+        Ok(Rooms {
+            start: Instant::now(rt)?,
+            poll: Poll::new(rt)?,
+            events: Events::with_capacity(alloc, EVENT_LIMIT)?,
+            closing: Vec::with_capacity(alloc, CLOSING_LIMIT)?,
+        })
+    }
 }
 
 impl<'a, R: Net + Clock, F: Read + Drop> MioSockets<'a, R, F> {
-    /// Listens at this address, and connects to the server's drivers. The reader gives the ids for
-    /// tracked orders. Ticks count the whole seconds from now on. The CR of clients and the bytes
-    /// above 126 of drivers are left out where that is asked for, as NUT's server does.
+    /// Listens at these addresses, at most 8, and connects to the server's drivers. The reader
+    /// gives the ids for tracked orders. Ticks count the whole seconds from now on.
     ///
     /// # Errors
     ///
-    /// The address can't be listened at, or memory or the clock fails.
+    /// The first address that can't be listened at.
     pub fn new(
         rt: &'a R,
         alloc: Global,
-        address: SocketAddr,
+        addresses: &[SocketAddr],
         server: &Server,
         ids: Option<F>,
-        nut_bytes: bool,
-    ) -> io::Result<Self> {
-        let start = Instant::now(rt)?;
-        let events = Events::with_capacity(alloc, EVENT_LIMIT)?;
-        let closing = Vec::with_capacity(alloc, CLOSING_LIMIT)?;
-        let poll = Poll::new(rt)?;
-        let door = Door::open(rt, alloc, poll.registry(), address)?;
+        rules: Rules,
+    ) -> Result<Self, CannotListen>
+        ensures { IfErr result (λ fault. IfSome fault.address (is_one_of addresses.now)) }
+    {
+        let Rooms {
+            start,
+            poll,
+            events,
+            closing,
+        } = Rooms::new(rt, alloc).map_err(|error| CannotListen {
+            address: None,
+            error,
+        })?;
+        let entrance = Entrance::open(rt, alloc, poll.registry(), addresses)?;
         let mut drivers = ArrayVec::new();
         for _ in 0..server.ups().len() {
             let _ = drivers.try_push(Driver::default());
@@ -101,26 +165,60 @@ impl<'a, R: Net + Clock, F: Read + Drop> MioSockets<'a, R, F> {
             start,
             second: 0,
             ids: ids.map(Ids::new),
-            door,
+            entrance,
             drivers,
             clients: ArrayVec::new(),
             closing,
             pass: Pass::default(),
             here: 0,
             failures: 0,
-            refusals: 0,
             cut_off: 0,
-            nut_bytes,
+            rules,
+            left: None,
+            sent_away: None,
         })
     }
 
-    /// The address at which it listens.
+    /// The address of this place at which it listens, none after the last one.
     ///
     /// # Errors
     ///
     /// The system doesn't say.
-    pub fn local_addr(&self) -> io::Result<SocketAddr> {
-        self.door.listener.local_addr()
+    pub fn local_addr(&self, place: usize) -> io::Result<Option<SocketAddr>> {
+        self.entrance.local_addr(place)
+    }
+
+    /// The client that left in the last turn, before its session had ended.
+    pub fn left(&self) -> Option<&Left> {
+        self.left.as_ref()
+    }
+
+    /// The newcomer to whom a client gives way, if there is one.
+    pub fn awaiting(&self) -> Option<&Address> {
+        Some(&self.entrance.newcomer.as_ref()?.address)
+    }
+
+    /// The newcomer that was sent away in the last turn.
+    pub fn sent_away(&self) -> Option<&Address> {
+        self.sent_away.as_ref()
+    }
+
+    /// Who has the places, where at least so many are taken.
+    pub fn crowd(&self, least: usize) -> Option<Crowd<'_>> {
+        let clients = self.clients.as_slice();
+        let taken = taken_places(clients);
+        if taken < least {
+            return None;
+        }
+        let place = who_has_most(clients)?;
+        match clients.get(place) {
+            Some(Some(client)) => Some(Crowd {
+                taken,
+                most: places_at(clients, place),
+                address: &client.address,
+            }),
+            _ => None,
+        }
     }
 
     /// The system's number of the error by which the driver of the UPS couldn't be connected to,
@@ -131,12 +229,12 @@ impl<'a, R: Net + Clock, F: Read + Drop> MioSockets<'a, R, F> {
         self.drivers.get(u.place as usize)?.error
     }
 
-    /// How many newcomers were sent away, how many drivers were cut off before their sockets had
-    /// ended, and how often no newcomer could be accepted. A count stops at its greatest number.
-    pub fn counts(&self) -> [u64; 3]
-        ensures { result ≡ refused self.now ∷ self.now.cut_off ∷ self.now.door.failures ∷ [] }
+    /// How many drivers were cut off before their sockets had ended, and how often no newcomer
+    /// could be accepted. A count stops at its greatest number.
+    pub fn counts(&self) -> [u64; 2]
+        ensures { result ≡ self.now.cut_off ∷ self.now.entrance.failures ∷ [] }
     {
-        [self.refusals, self.cut_off, self.door.failures]
+        [self.cut_off, self.entrance.failures]
     }
 
     /// The next turn without a look: what this pass has left, or the next one.
@@ -158,7 +256,7 @@ impl<'a, R: Net + Clock, F: Read + Drop> MioSockets<'a, R, F> {
             ≡ record self.old { pass = self.new.pass; here = self.new.here } }
     {
         let (drivers, clients) = (self.drivers.as_slice(), self.clients.as_slice());
-        let knocked = self.door.is_knocked_at;
+        let knocked = self.entrance.is_knocked_at();
         let (peer, way) = match self.pass.visit(server, knocked, drivers, clients)? {
             Stop::Listener => return Some(Ready::Newcomer),
             Stop::Driver(place, way) => {
@@ -191,7 +289,11 @@ impl<'a, R: Net + Clock, F: Read + Drop> MioSockets<'a, R, F> {
             Ticks (tick_in ready) self.old.second self.new.second) }
         ensures ids { IfOk result (λ ready. IfSome (tick_in ready) (λ second.
             option_map (λ ids. ids.due) self.new.ids
-            ≡ option_map (λ ids. more_due (second - self.old.second) ids.due) self.old.ids)) }
+            ≡ option_map (λ ids. due_after self.old.rules.refills_ids
+            (missing_ids server.now.state.tracking) (second - self.old.second) ids.due)
+            self.old.ids)) }
+        ensures silent { IfOk result (λ ready. IfSome (tick_in ready) (λ second.
+            NobodyIsSilent self.old.rules.idle second self.new.clients.items)) }
         ensures failures { self.new.failures ≡ self.old.failures }
     {
         let until = self.wakes_at(server, soon);
@@ -207,12 +309,28 @@ impl<'a, R: Net + Clock, F: Read + Drop> MioSockets<'a, R, F> {
             return Ok(self.visit(server).unwrap_or(Ready::Nothing));
         };
         if let Some(ids) = &mut self.ids {
-            ids.tick(second - self.second);
+            if self.rules.refills_ids {
+                ids.refill(server.missing_ids());
+            } else {
+                ids.tick(second - self.second);
+            }
         }
         self.second = second;
-        self.door.is_knocked_at |= self.door.is_tried_again;
+        self.entrance.next_second();
+        self.end_silent();
         connect(self.rt, self.poll.registry(), &mut self.drivers, server);
         Ok(Ready::Tick(second))
+    }
+
+    /// Ends the clients that were silent for as long as one may be.
+    fn end_silent(&mut self)
+        ensures only { self.new ≡ record self.old { clients = self.new.clients } }
+        ensures nobody { NobodyIsSilent self.old.rules.idle self.old.second
+            self.new.clients.items }
+    {
+        if let Some(idle) = self.rules.idle {
+            end_silent(self.clients.as_mut_slice(), idle, self.second);
+        }
     }
 
     /// The second up to which a look may wait: nothing is due before it.
@@ -222,8 +340,12 @@ impl<'a, R: Net + Clock, F: Read + Drop> MioSockets<'a, R, F> {
         if self.pass.had_turn || is_any_readable(self.closing.as_slice()) {
             return 0;
         }
-        let due = server.due().min(first_end(self.closing.as_slice()));
-        let again = self.door.is_tried_again || is_any_absent(self.drivers.as_slice(), server);
+        let mut due = server.due().min(first_end(self.closing.as_slice()));
+        if let Some(idle) = self.rules.idle {
+            due = due.min(first_silent(self.clients.as_slice(), idle, self.second));
+        }
+        let is_retried = self.entrance.is_tried_again();
+        let again = is_retried || is_any_absent(self.drivers.as_slice(), server);
         if soon || again {
             due.min(self.second.saturating_add(1))
         } else {
@@ -248,7 +370,7 @@ impl<'a, R: Net + Clock, F: Read + Drop> MioSockets<'a, R, F> {
     /// Notes what the system reports.
     fn hear(&mut self)
         ensures { self.new ≡ record self.old {
-          door = self.new.door;
+          entrance = self.new.entrance;
           drivers = self.new.drivers;
           clients = self.new.clients;
           closing = self.new.closing;
@@ -256,7 +378,7 @@ impl<'a, R: Net + Clock, F: Read + Drop> MioSockets<'a, R, F> {
     {
         for event in self.events.iter() {
             match Source::of(event.token()) {
-                Source::Listener => self.door.is_knocked_at = true,
+                Source::Listener => self.entrance.hear(),
                 Source::Driver(place) => {
                     if let Some(driver) = self.drivers.get_mut(place) {
                         if let Some(socket) = &mut driver.socket {
@@ -282,10 +404,10 @@ impl<'a, R: Net + Clock, F: Read + Drop> MioSockets<'a, R, F> {
     fn kept(&self, p: Peer, read: Result<Got, Broken>, into: &mut [u8]) -> Result<Got, Broken>
         requires { AtMost read into.old }
         ensures bound { AtMost result into.new }
-        ensures handed { HandsOn self.now.nut_bytes p read into.old result into.new }
+        ensures handed { HandsOn self.now.rules.nut_bytes p read into.old result into.new }
     {
         match read {
-            Ok(Got::Bytes(n)) if self.nut_bytes => match keep(p, &mut into[..n]) {
+            Ok(Got::Bytes(n)) if self.rules.nut_bytes => match keep(p, &mut into[..n]) {
                 0 => Ok(Got::Later),
                 kept => Ok(Got::Bytes(kept)),
             },
@@ -303,6 +425,76 @@ impl<'a, R: Net + Clock, F: Read + Drop> MioSockets<'a, R, F> {
             self.failures = self.failures.saturating_add(1);
         }
         answer
+    }
+
+    /// What becomes of a newcomer. Who was given way enters once the other one has left.
+    fn decision(&self, newcomer: &Newcomer) -> Option<Admission>
+        ensures { Decides self.now newcomer.now result }
+    {
+        let clients = self.clients.as_slice();
+        if let Some(c) = newcomer.awaits {
+            let place = place_of(clients, self.here, c);
+            return match clients.get(place) {
+                Some(Some(_)) => None,
+                _ => Some(Admission::Enters),
+            };
+        }
+        let kept = match newcomer.is_of_this_machine {
+            true => 0,
+            false => self.rules.kept_places,
+        };
+        Some(admits(clients, kept, self.second))
+    }
+
+    /// The address of the newcomer, if there is one and it enters. It waits while another client
+    /// gives way to it.
+    fn admit(&mut self) -> Option<Address>
+        ensures { self.new ≡ record self.old {
+          entrance = self.new.entrance;
+          clients = self.new.clients;
+          sent_away = self.new.sent_away;
+        } }
+    {
+        let newcomer = self.entrance.newcomer.as_ref()?;
+        match self.decision(newcomer)? {
+            Admission::Enters => return Some(newcomer.address.copied()),
+            Admission::After(place) => self.let_go(place),
+            Admission::SentAway => self.send_away(),
+        }
+        None
+    }
+
+    /// The client of this place gives way to the newcomer.
+    fn let_go(&mut self, place: usize)
+        ensures { self.new ≡ record self.old {
+          entrance = self.new.entrance;
+          clients = self.new.clients;
+        } }
+    {
+        let second = self.second;
+        if let Some(slot) = self.clients.get_mut(place) {
+            if let Some(client) = slot {
+                client.go(Leave::GaveWay(client.silence(second)));
+                if let Some(newcomer) = &mut self.entrance.newcomer {
+                    newcomer.awaits = Some(client.id);
+                }
+            }
+        }
+    }
+
+    /// The newcomer is sent away.
+    fn send_away(&mut self)
+        ensures only { self.new ≡ record self.old {
+          entrance = self.new.entrance;
+          sent_away = self.new.sent_away;
+        } }
+        ensures noted { self.new.sent_away ≡ newcomer_of self.old }
+    {
+        self.sent_away = self
+            .entrance
+            .newcomer
+            .take()
+            .map(|newcomer| newcomer.address);
     }
 }
 
@@ -325,6 +517,8 @@ impl<'a, R: Net + Clock, F: Read + Drop> Sockets for MioSockets<'a, R, F> {
 
     /// An id that is due, or the next turn.
     fn known(&mut self, server: &Server) -> Option<Ready> {
+        self.left = None;
+        self.sent_away = None;
         if let Some(ids) = &mut self.ids {
             if let Some(id) = ids.next() {
                 return Some(Ready::Id(id));
@@ -339,25 +533,26 @@ impl<'a, R: Net + Clock, F: Read + Drop> Sockets for MioSockets<'a, R, F> {
     }
 
     fn accept(&mut self) -> Result<Option<Address>, Broken> {
-        let answer = self.door.accept();
-        self.count(answer)
+        let answer = self.entrance.accept();
+        self.count(answer)?;
+        Ok(self.admit())
     }
 
     fn name(&mut self, c: ClientId)
         ensures told { Answers (told_of self.old) (Named c ∷ []) (told_of self.new) }
         ensures only { TouchesOnly (Client c) self.old self.new }
     {
-        if let Some(stream) = self.door.newcomer.take() {
-            take_in(&mut self.clients, self.poll.registry(), c, stream);
+        if let Some(newcomer) = self.entrance.newcomer.take() {
+            let registry = self.poll.registry();
+            take_in(&mut self.clients, registry, c, newcomer, self.second);
         }
     }
 
     fn refuse(&mut self)
         ensures told { Answers (told_of self.old) (Refused ∷ []) (told_of self.new) }
-        ensures refused { refused self.new ≡ counted (refused self.old) }
+        ensures noted { self.new.sent_away ≡ newcomer_of self.old }
     {
-        let _refused = self.door.newcomer.take();
-        self.refusals = self.refusals.saturating_add(1);
+        self.send_away();
     }
 
     fn read(&mut self, p: Peer, into: &mut [u8]) -> Result<Got, Broken>
@@ -371,7 +566,7 @@ impl<'a, R: Net + Clock, F: Read + Drop> Sockets for MioSockets<'a, R, F> {
                 let place = place_of(self.clients.as_slice(), self.here, c);
                 match self.clients.get_mut(place) {
                     Some(slot) => match slot {
-                        Some(client) => client.socket.read(into, client.standing.offered > 0),
+                        Some(client) => client.read(into, self.second),
                         None => Ok(Got::End),
                     },
                     None => Ok(Got::End),
@@ -400,7 +595,7 @@ impl<'a, R: Net + Clock, F: Read + Drop> Sockets for MioSockets<'a, R, F> {
                 let place = place_of(self.clients.as_slice(), self.here, c);
                 match self.clients.get_mut(place) {
                     Some(slot) => match slot {
-                        Some(client) => client.socket.write(from),
+                        Some(client) => client.write(from, self.second),
                         None => Err(Broken),
                     },
                     None => Err(Broken),
@@ -423,8 +618,13 @@ impl<'a, R: Net + Clock, F: Read + Drop> Sockets for MioSockets<'a, R, F> {
                 let place = place_of(self.clients.as_slice(), self.here, c);
                 if let Some(slot) = self.clients.get_mut(place) {
                     if let Some(client) = slot.take() {
+                        self.left = client.leaving.map(|leave| Left {
+                            address: client.address.copied(),
+                            leave,
+                        });
                         let registry = self.poll.registry();
-                        close(&mut self.closing, registry, client.socket, self.second);
+                        let (socket, address) = (client.socket, client.address);
+                        close(&mut self.closing, registry, socket, address, self.second);
                     }
                 }
             }

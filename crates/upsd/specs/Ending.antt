@@ -1,7 +1,7 @@
 -- How the program ends by what it meets.
-use Rattle.std.specs.Prelude.{◌≡◌, ◌≢◌, ◌⊎◌, ◌++◌, ◌∷◌, [], ℕ, ℤ, Bool, List, Option, Result, Ok}
+use Rattle.std.specs.Prelude.{◌≡◌, ◌≢◌, ◌⊎◌, ◌++◌, ◌∷◌, [], ℕ, ℤ, Bool, List, Option, Some, Result, Ok}
 use Rattle.std.specs.Prelude.{Err}
-use Rattle.std.specs.Prelude.{codes}
+use Rattle.std.specs.Prelude.{codes, slice_get}
 use Rattle.std.specs.Net.Text.{socket_text}
 use Rattle.std.specs.declared.net.socket_addr.SocketAddr.{SocketAddr}
 use denote.Ref.{Bor}
@@ -10,6 +10,7 @@ use Rattle.nutusers.specs.File.{Format, IsRefused}
 use Rattle.nutusers.specs.declared.fault.Cause.TheVariants as causes
 use Rattle.nutusers.specs.declared.fault.ConfFault.{ConfFault}
 use Rattle.upsd.specs.declared.ending.Ending.{Ending}
+use Rattle.upsd.specs.declared.task.Addresses.{Addresses}
 use Rattle.upsd.specs.declared.ending.Ending.TheVariants as endings
 use Rattle.upsd.specs.declared.ending.TheConstants.{DONE, FAULT, WORD_FAULT}
 use Rattle.nutloop.specs.declared.fault.LoopFault.{LoopFault}
@@ -34,10 +35,14 @@ ending_of_replay script (faults.BadEvent line) = endings.BadEvent script line
 ending_of_replay script faults.Memory = endings.Memory
 ending_of_replay script faults.Write = endings.Write
 
--- How serving at this address ends, once it has a server.
-abbrev pub IsEndOfServing : SocketAddr → Ending → Type 0
-IsEndOfServing address ending = (ending ≡ endings.Memory)
-    ⊎ (((error : Option ℤ) × (ending ≡ endings.Listen address error))
+-- How serving at these addresses ends, once it has a server.
+abbrev pub IsOneOf : Addresses → SocketAddr → Type 0
+IsOneOf addresses address = (place : ℕ) × (slice_get addresses.list place ≡ Some address)
+
+abbrev pub IsEndOfServing : Addresses → Ending → Type 0
+IsEndOfServing addresses ending = (ending ≡ endings.Memory)
+    ⊎ (((address : SocketAddr) × (error : Option ℤ) × IsOneOf addresses address
+    × (ending ≡ endings.Listen address error))
     ⊎ ((ending ≡ endings.Write) ⊎ ((fault : LoopFault) × (ending ≡ endings.Loop fault))))
 
 -- The line that says at which address the server listens for clients.

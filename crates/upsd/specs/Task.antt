@@ -1,16 +1,19 @@
 -- What the program is to do, by the words that were found after a subcommand.
-use Rattle.std.specs.Prelude.{◌≡◌, ◌⊎◌, ◌<◌, ◌^◌, ℕ, List, Option, Some, None, codes, unwrap_or}
-use Rattle.std.specs.Option.{option_map}
+use Rattle.std.specs.Prelude.{◌≡◌, ◌⊎◌, ◌<◌, ◌≤◌, ◌^◌, ℕ, List, [], Option, Some, None, codes}
+use Rattle.std.specs.Prelude.{length, slice_get}
+use Rattle.std.specs.Option.{option_map, option_map_or}
 use Rattle.std.specs.Str.Parse.{IsNumeral, digits_value, without_leading_plus}
 use Rattle.std.specs.Net.Grammar.{IsSocketText}
 use Rattle.std.specs.declared.net.socket_addr.SocketAddr.{SocketAddr}
-use Rattle.clap.specs.Words.{found_of, first_value, one_text, rows_of, subcommand_name_of}
+use Rattle.clap.specs.Words.{Text, found_of, first_value, matched_of, one_text, raw_values, rows_of, subcommand_name_of}
 use Rattle.clap.specs.Words.{subcommand_rows_of}
 use Rattle.clap.specs.declared.parser.matches.ArgMatches.{ArgMatches}
 use Rattle.nutargs.specs.Words.{IsFlag}
 use Rattle.nutcore.specs.Limits.{read_max_age}
 use Rattle.nutcore.specs.declared.max_age.TheConstants.{MAX_AGE_DEFAULT}
-use Rattle.upsd.specs.declared.task.TheConstants.{DEFAULT_ADDRESS, RECORD_MIB}
+use Rattle.upsd.specs.declared.task.TheConstants.{RECORD_MIB}
+use Rattle.nutloop.specs.declared.over_mio.door.TheConstants.{DOOR_LIMIT}
+use Rattle.upsd.specs.declared.task.Addresses.{Addresses}
 use Rattle.upsd.specs.declared.task.Service.{Service}
 use Rattle.upsd.specs.declared.task.Task.{Task}
 use Rattle.upsd.specs.declared.task.Task.TheVariants.{Serve, Replay}
@@ -25,11 +28,39 @@ pub record AreNamedIn (found : ArgMatches) (files : Files) : Type 0 where
   pub to_record : option_map (λ s. s.now) files.to_record
       ≡ first_value (found_of found) (codes "record")
 
--- The address is written after --listen; without it, it is the default one.
-abbrev pub IsAddressIn : ArgMatches → SocketAddr → Type 0
-IsAddressIn found address =
-    let text = unwrap_or (first_value (found_of found) (codes "listen")) DEFAULT_ADDRESS.now in
-    IsSocketText text address
+-- The addresses are written after --listen, each in its place, and are as many as may be listened
+-- at.
+abbrev pub texts_in : ArgMatches → Text → List Text
+texts_in found name = option_map_or raw_values (matched_of (found_of found) name) []
+
+pub record AreAddresses (texts : List Text) (addresses : Addresses) : Type 0 where
+  pub count : length texts ≡ addresses.count
+  pub some : 0 < addresses.count
+  pub most : addresses.count ≤ DOOR_LIMIT
+  pub each : (place : ℕ) (text : Text) (address : SocketAddr) → slice_get texts place ≡ Some text
+      → slice_get addresses.list place ≡ Some address → IsSocketText text address
+
+abbrev pub AreAddressesIn : ArgMatches → Addresses → Type 0
+AreAddressesIn found addresses = AreAddresses (texts_in found (codes "listen")) addresses
+
+-- The text is digits that write for how many seconds a client may be silent.
+abbrev pub IsIdle : Option Text → Option ℕ → Type 0
+IsIdle None idle = idle ≡ None
+IsIdle (Some text) idle = IsNumeral 10 (without_leading_plus text)
+    × (idle ≡ Some (digits_value 10 (without_leading_plus text)))
+    × (digits_value 10 (without_leading_plus text) < 2 ^ 64)
+
+abbrev pub IsIdleIn : ArgMatches → Option ℕ → Type 0
+IsIdleIn found idle = IsIdle (one_text (found_of found) (codes "idle")) idle
+
+-- The text is digits that write how many places are kept; without it none is.
+abbrev pub AreKeptPlaces : Option Text → ℕ → Type 0
+AreKeptPlaces None kept = kept ≡ 0
+AreKeptPlaces (Some text) kept = IsNumeral 10 (without_leading_plus text)
+    × (kept ≡ digits_value 10 (without_leading_plus text)) × (kept < 2 ^ 64)
+
+abbrev pub AreKeptPlacesIn : ArgMatches → ℕ → Type 0
+AreKeptPlacesIn found kept = AreKeptPlaces (one_text (found_of found) (codes "keep-places")) kept
 
 -- The text, which may begin with a plus, is digits that write so many seconds as the greatest age
 -- may have; without it these are 15.
@@ -52,7 +83,10 @@ abbrev pub IsRecordLimitIn : ArgMatches → ℕ → Type 0
 IsRecordLimitIn found limit = IsRecordLimit (one_text (found_of found) (codes "record-limit")) limit
 
 pub record IsServiceIn (found : ArgMatches) (service : Service) : Type 0 where
-  pub address : IsAddressIn found service.address
+  pub addresses : AreAddressesIn found service.addresses
+  pub idle : IsIdleIn found service.idle
+  pub kept_places : AreKeptPlacesIn found service.kept_places
+  pub refills_ids : IsFlag found (codes "refill-ids") service.refills_ids
   pub max_age : IsMaxAgeIn found service.max_age
   pub record_limit : IsRecordLimitIn found service.record_limit
   pub priorities : IsFlag found (codes "priorities") service.priorities

@@ -5,19 +5,26 @@ use Rattle.clap.specs.Words.{App, FailsBy, HasMatchesOf, Shape, Text, fault_of, 
 use Rattle.clap.specs.declared.builder.value_parser.ValueParser.TheVariants.{Unsigned}
 use Rattle.clap.specs.declared.error.Error.{Error}
 use Rattle.clap.specs.declared.parser.matches.ArgMatches.{ArgMatches}
-use Rattle.nutargs.specs.Words.{Free, Required, Row, long_flag, long_option, operand, with_words}
+use Rattle.nutargs.specs.Words.{Free, Required, Row, long_flag, long_option, long_options, operand}
+use Rattle.nutargs.specs.Words.{with_words}
 use Rattle.nutcore.specs.declared.max_age.TheConstants.{MAX_AGE_LEAST, MAX_AGE_MOST}
-use Rattle.upsd.specs.declared.task.TheConstants.{DEFAULT_ADDRESS, RECORD_MIB_MOST}
+use Rattle.upsd.specs.declared.task.TheConstants.{DEFAULT_ADDRESS, IDLE_LEAST, IDLE_MOST, KEPT_PLACES_MOST, RECORD_MIB_MOST}
 
--- `serve --ups F --users F [--vars F] [--ids F] [--listen A:P] [--maxage N] [--record F]
--- [--record-limit N] [--priorities] [--nut-bytes]`. The address is the default one where none is
--- named.
+-- `serve --ups F --users F [--vars F] [--ids F] [--refill-ids] [--listen A:P] .. [--idle S]
+-- [--keep-places N] [--maxage N] [--record F] [--record-limit N] [--priorities] [--nut-bytes]`. The
+-- address is the default one where none is named.
 abbrev pub serve_words : List Row
 serve_words =
     (long_option (codes "ups"), Required)
     ∷ (long_option (codes "users"), Required)
     ∷ (long_option (codes "vars"), Free) ∷ (long_option (codes "ids"), Free)
-    ∷ (record (long_option (codes "listen")) { defaults = DEFAULT_ADDRESS.now ∷ [] }, Free)
+    ∷ (long_flag (codes "refill-ids"), Free)
+    ∷ (long_options (codes "listen") DEFAULT_ADDRESS.now, Free)
+    ∷ (record (long_option (codes "idle")) { parser = Some (Unsigned IDLE_LEAST IDLE_MOST) }, Free)
+    ∷ (
+      record (long_option (codes "keep-places")) { parser = Some (Unsigned 0 KEPT_PLACES_MOST) },
+      Free,
+    )
     ∷ (
       record (long_option (codes "maxage")) {
         parser = Some (Unsigned MAX_AGE_LEAST MAX_AGE_MOST);

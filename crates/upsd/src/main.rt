@@ -24,7 +24,9 @@ use crate::ending::{Ending, print_ending, status_of};
 use crate::files::Configuration;
 use crate::replaying::replay_files;
 use crate::serve::serve_files;
-use crate::task::{DEFAULT_ADDRESS, RECORD_MIB_MOST, Task, task_of};
+use crate::task::{
+    DEFAULT_ADDRESS, IDLE_LEAST, IDLE_MOST, KEPT_PLACES_MOST, RECORD_MIB_MOST, Task, task_of,
+};
 use crate::warnings::warn;
 use clap::builder::ValueParser;
 use clap::{ArgMatches, Command, Error};
@@ -71,13 +73,19 @@ fn serve_command<'a>(alloc: Global) -> Result<Command<'a>, AllocError>
 }
 
 /// The words of `serve`.
-static SERVE_WORDS: [Word; 10] = words! {
+static SERVE_WORDS: [Word; 13] = words! {
     "ups": LongOption("F"), Required, "The list of UPSs, upsd.ups(5); not NUT's ups.conf";
     "users": LongOption("F"), Required, "The users and their rights, upsd.users(5)";
     "vars": LongOption("F"), Free, VARS;
     "ids": LongOption("F"), Free,
         "Source of order ids: /dev/urandom [without it: none]";
-    "listen": Preset("A:P", DEFAULT_ADDRESS), Free, "IP address and port";
+    "refill-ids": LongFlag, Free,
+        "Each second as many ids as are missing, not one";
+    "listen": Presets("A:P", DEFAULT_ADDRESS), Free, "IP address and port, up to 8 times";
+    "idle": Parsed("S", ValueParser::Unsigned(IDLE_LEAST, IDLE_MOST)), Free,
+        "End clients that are silent for S seconds [without it: none]";
+    "keep-places": Parsed("N", ValueParser::Unsigned(0, KEPT_PLACES_MOST)), Free,
+        "Keep N places for clients of this machine [without it: 0]";
     "maxage": Parsed("N", ValueParser::Unsigned(MAX_AGE_LEAST as u64, MAX_AGE_MOST as u64)), Free,
         "Stale after N seconds of silence [without it: 15]";
     "record": LongOption("F"), Free,

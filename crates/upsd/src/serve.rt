@@ -1,24 +1,24 @@
 //! Serving clients and drivers.
-ghost use Rattle.std.specs.Prelude.{◌≡◌, ◌≢◌, ◌⊎◌, List, IfOk, IfErr, MatchResult, Ok, Err, is_some};
+ghost use Rattle.std.specs.Prelude.{◌≡◌, ◌≢◌, ◌⊎◌, List, IfOk, IfErr, IfSome, MatchResult, Ok, Err, is_some};
 ghost use Rattle.std.specs.IoError.{error_kind, raw_os_error};
 ghost use Rattle.nutcore.specs.declared.note.Note.{Note};
 ghost use Rattle.nutloop.specs.declared.fault.LoopFault.{LoopFault};
 ghost use Rattle.nutloop.specs.OverMio.{told_of};
 ghost use Rattle.nutloop.specs.Serving.{IsOneRun, TurnsUpTo, running};
 ghost use Rattle.upsd.specs.Configuration.{FirstFails};
-ghost use Rattle.upsd.specs.Ending.{IsEndOfServing, PrintsAddress};
+ghost use Rattle.upsd.specs.Ending.{IsEndOfServing, IsOneOf, PrintsAddress};
 ghost use Rattle.upsd.specs.Reading.{CantBeOpened, anything};
 
 use crate::ending::Ending;
 use crate::files::{Files, server_of};
 use crate::reading::{create, open};
-use crate::task::Service;
+use crate::task::{Addresses, Service};
 use crate::warnings::{warn, warn_of_record};
 use nutargs::VERSION;
 use nutcore::{MaxAge, Record, Server};
 use nutio::{CountedWriter, Sink, send};
-use nutjournal::Journal;
-use nutloop::MioSockets;
+use nutjournal::{CROWD, Crowd, Doings, Journal, Leave};
+use nutloop::{DOOR_LIMIT, MioSockets, Rules};
 use nutreplay::{Recorder, record_head};
 use std::alloc::Global;
 use std::fs::File;
@@ -41,7 +41,7 @@ pub fn serve_files<'a>(
     ensures { IfErr result (λ ending.
         FirstFails anything files.entry ending
         ⊎ (CantBeOpened files.entry.ids ending
-        ⊎ IsEndOfServing service.address ending)) }
+        ⊎ IsEndOfServing service.addresses ending)) }
 {
     let mut server = server_of(rt.alloc(), rt, files, service.max_age)?;
     serve(rt, &mut server, files, service)
@@ -69,11 +69,17 @@ fn serve<'a>(
     service: Service,
 ) -> Result<(), Ending<'a>>
     ensures { IfErr result (λ ending.
-        CantBeOpened files.entry.ids ending ⊎ IsEndOfServing service.address ending) }
+        CantBeOpened files.entry.ids ending ⊎ IsEndOfServing service.addresses ending) }
 {
     let ids = ids_in(rt, files.ids)?;
-    let address = service.address;
-    match MioSockets::new(rt, rt.alloc(), address, server, ids, service.nut_bytes) {
+    let addresses = service.addresses;
+    let rules = Rules {
+        idle: service.idle,
+        kept_places: service.kept_places as usize,
+        refills_ids: service.refills_ids,
+        nut_bytes: service.nut_bytes,
+    };
+    match MioSockets::new(rt, rt.alloc(), addresses.as_slice(), server, ids, rules) {
         Ok(mut sockets) => match recorder_in(
             rt,
             server,
@@ -88,7 +94,7 @@ fn serve<'a>(
             }
             Err(ending) => Err(ending),
         },
-        Err(error) => Err(ending_of_listening(address, &error)),
+        Err(fault) => Err(ending_of_listening(addresses, fault.address, &fault.error)),
     }
 }
 
@@ -138,7 +144,7 @@ fn comment(rt: &HostRuntime) -> io::Result<String> {
     Ok(comment)
 }
 
-/// Writes the warnings, prints the address, and serves from then on.
+/// Writes the warnings, prints the addresses, and serves from then on.
 fn serve_over<'a, F: Read + Drop, W: Sink + Drop>(
     rt: &HostRuntime,
     server: &mut Server,
@@ -147,31 +153,34 @@ fn serve_over<'a, F: Read + Drop, W: Sink + Drop>(
     files: Files<'a>,
     service: Service,
 ) -> Result<(), Ending<'a>>
-    ensures { IfErr result (IsEndOfServing service.address) }
+    ensures { IfErr result (IsEndOfServing service.addresses) }
 {
-    let address = service.address;
     let journal = Journal::new(rt, service.priorities, service.max_age);
     let mut journal = journal.map_err(|_| Ending::Memory)?;
     warn(rt, files, server.ups(), server.users());
-    match print_bound(rt, address, sockets.local_addr()) {
+    match print_bound(rt, service.addresses, sockets) {
         Ok(()) => go_round(rt, server, sockets, recorder, &mut journal),
         Err(ending) => Err(ending),
     }
 }
 
-/// Prints the address at which clients are listened for, if it is known.
-fn print_bound<'a>(
+/// Prints the addresses at which clients are listened for, in their order.
+fn print_bound<'a, F: Read + Drop>(
     rt: &HostRuntime,
-    address: SocketAddr,
-    bound: io::Result<SocketAddr>,
+    addresses: Addresses,
+    sockets: &MioSockets<'_, HostRuntime, F>,
 ) -> Result<(), Ending<'a>>
-    ensures { IfErr result (IsEndOfServing address) }
+    ensures { IfErr result (IsEndOfServing addresses) }
 {
     let mut out = CountedWriter::new(io::writer(rt));
-    match bound {
-        Ok(bound) => print_address(rt.alloc(), &mut out, bound),
-        Err(error) => Err(ending_of_listening(address, &error)),
+    for place in 0..DOOR_LIMIT {
+        match sockets.local_addr(place) {
+            Ok(Some(bound)) => print_address(rt.alloc(), &mut out, bound)?,
+            Ok(None) => break,
+            Err(error) => return Err(ending_of_listening(addresses, None, &error)),
+        }
     }
+    Ok(())
 }
 
 /// Goes round the peers up to the first fault of the loop, and writes what is new. Whatever the
@@ -199,12 +208,47 @@ fn go_round<'a, F: Read + Drop, W: Sink + Drop>(
 {
     match nutloop::serve(server, sockets, recorder, |server, sockets, recorder| {
         let error_of = |u| sockets.driver_error(u);
+        let crowd = || crowd_of(sockets);
         let is_cut = matches!(recorder, Some(one) if one.is_cut());
-        journal.write(rt, server, error_of, sockets.counts(), is_cut)
+        journal.write(rt, server, error_of, crowd, doings_of(sockets, is_cut))
     }) {
         Ok(()) => Ok(()),
         Err(fault) => Err(Ending::Loop(fault)),
     }
+}
+
+/// What the sockets did that no note says, and whether the record has ended early.
+fn doings_of<'s, F: Read + Drop>(
+    sockets: &'s MioSockets<'_, HostRuntime, F>,
+    is_record_cut: bool,
+) -> Doings<'s> {
+    let left = sockets.left().map(|left| {
+        let leave = match left.leave {
+            nutloop::Leave::Ended => Leave::Ended,
+            nutloop::Leave::Failed => Leave::Failed,
+            nutloop::Leave::Silent(seconds) => Leave::Silent(seconds),
+            nutloop::Leave::GaveWay(seconds) => {
+                Leave::GaveWay(sockets.awaiting().unwrap_or(&left.address), seconds)
+            }
+        };
+        (&left.address, leave)
+    });
+    Doings {
+        left,
+        sent_away: sockets.sent_away(),
+        counts: sockets.counts(),
+        is_record_cut,
+    }
+}
+
+/// Who has the places, where three quarters of them are taken.
+fn crowd_of<F: Read + Drop>(sockets: &MioSockets<'_, HostRuntime, F>) -> Option<Crowd> {
+    let crowd = sockets.crowd(CROWD)?;
+    Some(Crowd {
+        taken: crowd.taken,
+        most: crowd.most,
+        address: crowd.address.copied(),
+    })
 }
 
 /// Prints that clients are listened for at the address.
@@ -222,15 +266,23 @@ fn print_address<'a, W: Sink>(
     }
 }
 
-/// How the program ends where it can't listen.
-fn ending_of_listening<'a>(address: SocketAddr, error: &Error) -> Ending<'a>
+/// How the program ends where it can't listen, at this address or at the first one.
+fn ending_of_listening<'a>(
+    addresses: Addresses,
+    address: Option<SocketAddr>,
+    error: &Error,
+) -> Ending<'a>
+    requires { IfSome address (IsOneOf addresses) }
     ensures memory { error_kind error.now ≡ ErrorKind.OutOfMemory → result ≡ Ending.Memory }
-    ensures failed { error_kind error.now ≢ ErrorKind.OutOfMemory
-        → result ≡ Ending.Listen address (raw_os_error error.now) }
-    ensures ends { IsEndOfServing address result }
+    ensures failed { IfSome address (λ a. error_kind error.now ≢ ErrorKind.OutOfMemory
+        → result ≡ Ending.Listen a (raw_os_error error.now)) }
+    ensures ends { IsEndOfServing addresses result }
 {
     match error.kind() {
         ErrorKind::OutOfMemory => Ending::Memory,
-        _ => Ending::Listen(address, error.raw_os_error()),
+        _ => {
+            let address = address.unwrap_or(addresses.first());
+            Ending::Listen(address, error.raw_os_error())
+        }
     }
 }

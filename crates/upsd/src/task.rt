@@ -1,13 +1,14 @@
 //! What the program is to do, by the words of its subcommand.
-ghost use Rattle.std.specs.Prelude.{◌≡◌, ◌≢◌, MatchOption, ℕ, None, codes};
-ghost use Rattle.std.specs.declared.net.socket_addr.SocketAddr.{SocketAddr};
+ghost use Rattle.std.specs.Prelude.{◌≡◌, ◌≢◌, MatchOption, Option, Some, ℕ, None, codes, slice_get, take};
 ghost use Rattle.clap.specs.Words.{found_of, first_value};
+ghost use Rattle.upsd.specs.declared.task.Addresses.{Addresses};
 ghost use Rattle.upsd.specs.declared.task.Service.{Service};
-ghost use Rattle.upsd.specs.Task.{IsAddressIn, IsMaxAgeIn, IsRecordLimitIn, IsServiceIn, IsServing, IsReplaying};
+ghost use Rattle.upsd.specs.Task.{AreAddressesIn, AreKeptPlacesIn, IsIdleIn, IsMaxAgeIn, IsRecordLimitIn, IsServiceIn, IsServing, IsReplaying};
 
 use crate::files::{Files, files_named};
 use clap::ArgMatches;
-use nutcore::{MAX_AGE_DEFAULT, MaxAge};
+use nutcore::{MAX_AGE_DEFAULT, MaxAge, SESSION_LIMIT};
+use nutloop::DOOR_LIMIT;
 use std::net::SocketAddr;
 
 /// Where clients are listened for, unless the words name an address.
@@ -18,10 +19,47 @@ pub const RECORD_MIB: u64 = 64;
 
 pub const RECORD_MIB_MOST: u64 = 1_048_576;
 
+/// The seconds of silence after which a client may be ended: the least, which several polls of
+/// `upsmon` fit in, and the most.
+pub const IDLE_LEAST: u64 = 30;
+
+pub const IDLE_MOST: u64 = 86_400;
+
+/// The most places that may be kept for clients of this machine: one is left for all others.
+pub const KEPT_PLACES_MOST: u64 = SESSION_LIMIT as u64 - 1;
+
+/// The addresses at which clients are listened for, in the order of the words.
+#[derive(Clone, Copy)]
+pub struct Addresses {
+    /// Behind the last one the first one is repeated.
+    list: [SocketAddr; DOOR_LIMIT],
+    count: usize,
+}
+
+impl Addresses {
+    pub fn first(&self) -> SocketAddr
+        ensures { slice_get self.now.list 0 ≡ Some result }
+    {
+        self.list[0]
+    }
+
+    pub fn as_slice(&self) -> &[SocketAddr]
+        ensures { result.now ≡ take self.now.count self.now.list }
+    {
+        &self.list[..self.count.min(DOOR_LIMIT)]
+    }
+}
+
 /// How to serve.
 #[derive(Clone, Copy)]
 pub struct Service {
-    pub address: SocketAddr,
+    pub addresses: Addresses,
+    /// For so many seconds a client may be silent.
+    pub idle: Option<u64>,
+    /// So many places are kept for clients of this machine.
+    pub kept_places: u64,
+    /// At each tick as many ids are handed in as are missing.
+    pub refills_ids: bool,
     pub max_age: MaxAge,
     /// The most MiB of a record.
     pub record_limit: u64,
@@ -64,7 +102,10 @@ fn service_named(found: &ArgMatches<'_>) -> Option<Service>
         ((service : Service) → ¬ (IsServiceIn found.now service)) (IsServiceIn found.now) }
 {
     Some(Service {
-        address: address_named(found)?,
+        addresses: addresses_named(found)?,
+        idle: idle_named(found)?,
+        kept_places: kept_places_named(found)?,
+        refills_ids: found.get_flag("refill-ids"),
         max_age: max_age_named(found)?,
         record_limit: record_limit_named(found)?,
         priorities: found.get_flag("priorities"),
@@ -72,13 +113,40 @@ fn service_named(found: &ArgMatches<'_>) -> Option<Service>
     })
 }
 
-/// The address after `--listen`.
-fn address_named(found: &ArgMatches<'_>) -> Option<SocketAddr>
+/// The addresses after `--listen`, at most 8.
+fn addresses_named(found: &ArgMatches<'_>) -> Option<Addresses>
     ensures { MatchOption result
-        ((address : SocketAddr) → ¬ (IsAddressIn found.now address)) (IsAddressIn found.now) }
+        ((addresses : Addresses) → ¬ (AreAddressesIn found.now addresses))
+        (AreAddressesIn found.now) }
 {
-    let text = found.get_str("listen").unwrap_or(DEFAULT_ADDRESS);
-    text.parse::<SocketAddr>().ok()
+    let texts = found.get_strs("listen")?;
+    let first = texts.first()?.parse::<SocketAddr>().ok()?;
+    let count = texts.len();
+    if count > DOOR_LIMIT {
+        return None;
+    }
+    let mut list = [first; DOOR_LIMIT];
+    for place in 0..count {
+        list[place] = texts[place].parse::<SocketAddr>().ok()?;
+    }
+    Some(Addresses { list, count })
+}
+
+/// The seconds after `--idle`, none where it isn't there.
+fn idle_named(found: &ArgMatches<'_>) -> Option<Option<u64>>
+    ensures { MatchOption result
+        ((idle : Option ℕ) → ¬ (IsIdleIn found.now idle)) (IsIdleIn found.now) }
+{
+    found.try_get_one::<u64>("idle").ok()
+}
+
+/// The places after `--keep-places`, 0 where it isn't there.
+fn kept_places_named(found: &ArgMatches<'_>) -> Option<u64>
+    ensures { MatchOption result
+        ((kept : ℕ) → ¬ (AreKeptPlacesIn found.now kept)) (AreKeptPlacesIn found.now) }
+{
+    let kept = found.try_get_one::<u64>("keep-places").ok()?;
+    Some(kept.unwrap_or(0))
 }
 
 /// The greatest age after `--maxage`.

@@ -3,7 +3,7 @@ use super::driver::Driver;
 use crate::kept::Kept;
 use anyhow::{Error, Result};
 use nutcore::{Descriptions, MAX_AGE_DEFAULT, MaxAge, Server, UpsList, Users};
-use nutloop::{MioSockets, turn};
+use nutloop::{MioSockets, Rules, turn};
 use std::alloc::Global;
 use std::fs::File;
 use std::net::SocketAddr;
@@ -29,7 +29,14 @@ impl<'a> Served<'a> {
     pub fn start(rt: &'a HostRuntime, driver: Driver, path: &str) -> Result<Self> {
         let server = server_of(rt.alloc(), path)?;
         let address = ANY_PORT.parse::<SocketAddr>()?;
-        let sockets = MioSockets::new(rt, rt.alloc(), address, &server, None, false)?;
+        let rules = Rules {
+            idle: None,
+            kept_places: 0,
+            refills_ids: false,
+            nut_bytes: false,
+        };
+        let sockets = MioSockets::new(rt, rt.alloc(), &[address], &server, None, rules);
+        let sockets = sockets.map_err(|fault| fault.error)?;
         Ok(Served {
             server,
             sockets,
@@ -41,7 +48,8 @@ impl<'a> Served<'a> {
 
     /// The port at which the server listens.
     pub fn port(&self) -> Result<u16> {
-        Ok(self.sockets.local_addr()?.port())
+        let address = self.sockets.local_addr(0)?;
+        Ok(address.ok_or(Error::msg("no address"))?.port())
     }
 
     /// How many turns there were.

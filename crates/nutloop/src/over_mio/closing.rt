@@ -1,5 +1,7 @@
 //! Connections of clients whose sessions have ended.
-ghost use Rattle.std.specs.Prelude.{◌≡◌, ◌≤◌, vec_len};
+ghost use Rattle.std.specs.Prelude.{◌≡◌, ◌≤◌, length, vec_len};
+ghost use Rattle.nutloop.specs.Closing.{connections_at};
+ghost use Rattle.nutloop.specs.Highest.{IsFirstHighest};
 ghost use Rattle.nutloop.specs.declared.over_mio.closing.TheConstants.{CLOSING_LIMIT};
 ghost use Rattle.nutloop.specs.Waking.{first_end, is_any_readable};
 
@@ -7,10 +9,12 @@ use super::socket::Socket;
 use super::tokens::Source;
 use mio::net::TcpStream;
 use mio::{Interest, Registry};
+use nutwords::Address;
 use std::io::{ErrorKind, Read};
 use std::net::Shutdown;
 
-/// The most connections that are read on after their sessions. Of more the oldest one is closed.
+/// The most connections that are read on after their sessions. Of more the oldest one is closed of
+/// the address that has most.
 pub(super) const CLOSING_LIMIT: usize = 64;
 
 /// For how many seconds at most such a connection is read on, as ticks count them.
@@ -24,6 +28,7 @@ const PIECE: usize = 4096;
 #[derive(Drop)]
 pub(super) struct Closing {
     pub socket: Socket<TcpStream>,
+    address: Address,
     /// The second at which it is closed.
     until: u64,
 }
@@ -54,6 +59,7 @@ pub(super) fn close(
     closing: &mut Vec<Closing>,
     registry: &Registry,
     mut socket: Socket<TcpStream>,
+    address: Address,
     second: u64,
 )
     ensures { vec_len closing.old ≤ CLOSING_LIMIT → vec_len closing.new ≤ CLOSING_LIMIT }
@@ -68,13 +74,44 @@ pub(super) fn close(
     }
     socket.readable = true;
     let until = second.saturating_add(CLOSING_TICKS);
-    let mut connection = Closing { socket, until };
+    let mut connection = Closing {
+        socket,
+        address,
+        until,
+    };
     if connection.goes_on(second) {
         if closing.len() >= CLOSING_LIMIT {
-            let _oldest = closing.remove(0);
+            let place = first_to_go(closing.as_slice()).unwrap_or(0);
+            let _oldest = closing.remove(place);
         }
         let _ = closing.push(connection);
     }
+}
+
+/// How many of these connections the address of the one at this place has.
+fn connections_at(closing: &[Closing], place: usize) -> usize
+    ensures { result ≡ connections_at closing.now place }
+{
+    let Some(that) = closing.get(place) else {
+        return 0;
+    };
+    let address = that.address.as_bytes();
+    let is_of = |connection: &&Closing| connection.address.as_bytes() == address;
+    closing.iter().filter(is_of).count()
+}
+
+/// The oldest of these connections of the address that has most of them.
+fn first_to_go(closing: &[Closing]) -> Option<usize>
+    ensures { IsFirstHighest (connections_at closing.now) (length closing.now) result }
+{
+    let (mut first, mut highest) = (None, 0);
+    for place in 0..closing.len() {
+        let connections = connections_at(closing, place);
+        if connections > highest {
+            (first, highest) = (Some(place), connections);
+        }
+    }
+    first
 }
 
 /// Whether one of these connections may be read.

@@ -9,7 +9,9 @@ ghost use Rattle.nutloop.specs.declared.sockets.Got.TheVariants.{End};
 use crate::sockets::{Broken, Got};
 use mio::Interest;
 use mio::event::Event;
+use mio::net::TcpStream;
 use std::io::{ErrorKind, Read, Write};
+use std::net::Shutdown;
 
 /// What the system reports of a peer's socket.
 pub(super) fn both_ways() -> Interest
@@ -28,6 +30,23 @@ pub(super) struct Socket<S> {
     /// The peer sends no more, or its connection is broken. A short read doesn't mean that the
     /// socket is empty then.
     pub ended: bool,
+}
+
+impl Socket<TcpStream> {
+    /// Shuts the connection both ways. It may be read and written to, which finds its end.
+    pub fn end(&mut self)
+        ensures { self.new ≡ record self.old {
+          stream = self.new.stream;
+          readable = true;
+          writable = true;
+          ended = true;
+        } }
+    {
+        let _ = self.stream.shutdown(Shutdown::Both);
+        self.readable = true;
+        self.writable = true;
+        self.ended = true;
+    }
 }
 
 impl<S: Read + Write> Socket<S> {

@@ -1,0 +1,48 @@
+-- Who is silent after a tick.
+use Rattle.std.proofs.Common.{◌≡◌, ◌∙◌, ◌&&◌, ℕ, Bool, true, false, List, Option, Some, None, refl, ap, sym}
+use Rattle.std.proofs.Common.{◌++◌, append-nil, drop, length, take}
+use Rattle.std.proofs.Math.Seq.{drop-length, take-length}
+use Rattle.std.specs.List.{refill}
+use Rattle.std.specs.Prelude.{is_none, nat_le, not}
+use Rattle.std.specs.Option.{option_map_or}
+use Rattle.nutloop.specs.declared.over_mio.clients.Client.{Client}
+use Rattle.nutloop.specs.declared.over_mio.clients.Leave.{Leave}
+use Rattle.nutloop.specs.declared.over_mio.pass.Way.TheVariants.{Read}
+use Rattle.nutloop.specs.Pass.{client_in, client_may}
+use Rattle.nutloop.specs.Places.{EndsIfSilent, EndsSilent, Goes, NobodyIsSilent, is_silent, silence}
+
+and_false : (a : Bool) → (a && false) ≡ false
+and_false true = refl
+and_false false = refl
+
+-- A slice of so many elements stands in the place of all.
+pub refilled : {X : Type 0} (xs ws : List X) → length ws ≡ length xs → refill (length xs) xs ws ≡ ws
+refilled xs ws same =
+    ap (λ n. take (length xs) (ws ++ drop n xs)) same ∙ ap (λ t. take (length xs) (ws ++ t)) (drop-length xs)
+    ∙ ap (take (length xs)) (append-nil ws) ∙ ap (λ n. take n ws) (sym same) ∙ take-length ws
+
+-- Who leaves isn't silent.
+gone : (leave : Leave) (least second : ℕ) (x y : Client) → Goes leave x y → is_silent least second y ≡ false
+unfolding is_silent
+gone leave least second x y goes =
+    let leaving : y.leaving ≡ Some leave = ap (λ (c : Client). c.leaving) goes.only in
+    ap (λ l. nat_le least (silence second y) && not (client_may Read y) && is_none l) leaving
+    ∙ and_false (nat_le least (silence second y) && not (client_may Read y))
+
+by_test : (idle second : ℕ) (x : Client) (new : Option Client) (test : Bool) → is_silent idle second x ≡ test →
+    EndsIfSilent idle second (Some x) new → option_map_or (is_silent idle second) new false ≡ false
+by_test idle second x new true is ends =
+    let went = ends.1 is in
+    ap (λ o. option_map_or (is_silent idle second) o false) went.1 ∙ gone (_) idle second x went.0 went.2
+by_test idle second x new false is ends =
+    ap (λ o. option_map_or (is_silent idle second) o false) (ends.0 is) ∙ is
+
+of_slot : (idle second : ℕ) (old new : Option Client) → EndsIfSilent idle second old new →
+    option_map_or (is_silent idle second) new false ≡ false
+of_slot idle second None new ends = ap (λ o. option_map_or (is_silent idle second) o false) ends
+of_slot idle second (Some x) new ends = by_test idle second x new (is_silent idle second x) refl ends
+
+pub nobody_stays : (idle second : ℕ) (old new : List (Option Client)) → EndsSilent idle second old new →
+    NobodyIsSilent (Some idle) second new
+nobody_stays idle second old new ends place =
+    of_slot idle second (client_in old place) (client_in new place) (ends.each place)
