@@ -145,7 +145,7 @@ times kind (next ∷ later) = one_if (is_same kind next) + times kind later
 -- more are logged than the limit.
 pub record EachLineIsLoggedOrCounted : Type 0 where
   pub each : (y : Tally) (kind : Kind) (lines : List Kind)
-      → length y.more ≡ 13 → count kind y + length lines < 2 ^ 64
+      → length y.more ≡ 17 → count kind y + length lines < 2 ^ 64
       → logged_of kind y lines + count kind (after_lines y lines) ≡ count kind y + times kind lines
   pub most : (y : Tally) (lines : List Kind)
       → (after_lines y lines).logged ≤ max y.logged LINE_LIMIT

@@ -101,7 +101,7 @@ impl Journal {
         ensures held { AsksForMore (length server.now.state.list) self.old
             → AsksForMore (length server.now.state.list) self.new }
         ensures more { result
-            ≡ (self.new.has_more || are_behind doings self.new) }
+            ≡ (self.new.has_more || are_behind doings.entry self.new) }
         // Within a second the tallies only change by lines, each of which is logged or counted.
         ensures goes_on { self.old.moment ≡ Some server.now.state.moment
             → LeadsTo self.old.tallies self.new.tallies }
@@ -144,7 +144,7 @@ impl Journal {
     /// Whether one of these counts is more than what was logged of it, somebody was sent away of
     /// whom nothing was logged, or the record has ended since.
     fn is_behind(&self, doings: Doings<'_>) -> bool
-        ensures { result ≡ are_behind doings self.now }
+        ensures { result ≡ are_behind doings.entry self.now }
     {
         for place in 0..COUNTED.len() {
             if self.counts[place].is_behind(doings.counts[place]) {
@@ -230,11 +230,13 @@ impl Journal {
         if self.crowded == Some(hour) {
             return;
         }
-        if let Some(Crowd {
-            taken,
-            most,
-            address,
-        }) = crowd()
+        if let Some(
+            Crowd {
+                taken,
+                most,
+                address,
+            },
+        ) = crowd()
         {
             self.crowded = Some(hour);
             let address = address.as_bytes().escape_ascii();
@@ -265,8 +267,7 @@ impl Journal {
             }
             Leave::GaveWay(to, seconds) => {
                 let to = to.as_bytes().escape_ascii();
-                let line =
-                    format_args!("{address} gave way to {to} after {seconds} s of silence");
+                let line = format_args!("{address} gave way to {to} after {seconds} s of silence");
                 self.log(of, Kind::GaveWay, None, &line);
             }
             Leave::Ended | Leave::Failed => {}
@@ -387,7 +388,11 @@ fn log_refusal(log: &mut LogBuffer, refusal: &mut Refusal, minute: u64) {
         return;
     };
     let address = address.escape_ascii();
-    log.add(WARNING, None, &format_args!("sent away: {address}: {count}"));
+    log.add(
+        WARNING,
+        None,
+        &format_args!("sent away: {address}: {count}"),
+    );
 }
 
 /// Why a client is logged out: it left so, or its session ended by itself.

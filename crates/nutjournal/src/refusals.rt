@@ -1,5 +1,6 @@
 //! The newcomers that were sent away, by their addresses.
 ghost use Rattle.std.specs.Prelude.{◌≡◌};
+ghost use Rattle.std.specs.List.{list_any};
 ghost use Rattle.nutjournal.specs.Refusals.{is_any_refusal_behind, is_behind_refusal};
 
 use crate::tallies::ADDRESS_COUNT;
@@ -77,8 +78,15 @@ impl Refusals {
     pub fn is_any_behind(&self) -> bool
         ensures { result ≡ is_any_refusal_behind self.now }
     {
-        self.list.iter().any(|one| one.is_behind()) || self.others.is_behind()
+        is_one_behind(self.list.as_slice()) || self.others.is_behind()
     }
+}
+
+/// Whether there are more of one of these than were logged.
+fn is_one_behind(refusals: &[Refusal]) -> bool
+    ensures { result ≡ list_any is_behind_refusal refusals.now }
+{
+    refusals.iter().any(|one| one.is_behind())
 }
 
 /// The count stops at its greatest number.

@@ -154,7 +154,11 @@ impl Tally {
         Tally {
             losses: if is_minute { 0 } else { self.losses },
             logged: 0,
-            more: if is_reported { [0; KIND_COUNT] } else { self.more },
+            more: if is_reported {
+                [0; KIND_COUNT]
+            } else {
+                self.more
+            },
         }
     }
 
