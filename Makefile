@@ -19,7 +19,7 @@ DRIVER = lib/voqarchay/demodriver
 # for ours.
 MINE = share/voqarchay
 DOC = share/doc/voqarchay
-TEXTS = OPERATING.md power-failure.svg FROM_NUT.md INTEROP.md FILES.md CLIENTS.md PROTOCOL.md DRIVER.md
+TEXTS = OPERATING.md power-failure.svg FROM_NUT.md INTEROP.md PROTOCOL.md DRIVER.md
 EXAMPLES = $(addprefix $(DOC)/examples/, upses.conf upsd.users cmdvartab from_ups_conf.conf ups_conf_changed.conf upsd-metrics.service upsd-metrics.timer upsd-alerts.yml record.conf)
 PAGES = $(addprefix share/man/man5/, $(notdir $(wildcard man/*.5))) $(addprefix share/man/man8/, $(notdir $(wildcard man/*.8)))
 COMPLETIONS = $(addprefix share/bash-completion/completions/, $(PROGRAMS))
@@ -28,7 +28,7 @@ LIST = $(ROOT)/$(MINE)/installed
 
 # Proves and builds: a program that isn't proved isn't built. It stands as crates/NAME/out/NAME then.
 all:
-	python3 tools/build.py $(PROGRAMS) demodriver
+	@python3 tools/build.py $(PROGRAMS) demodriver
 
 # The same programs for ARM64, over the libraries that are built: crates/NAME/out/NAME.arm64.
 arm64:
@@ -38,9 +38,17 @@ arm64:
 demo:
 	@bash tools/demo
 
+# The same, over programs that are not proved, which takes minutes to compile: crates/NAME/out/NAME.try. Nothing installs them.
+try:
+	@python3 tools/try.py $(PROGRAMS) demodriver && bash tools/demo .try
+
+# The scripts of tests/ over those programs, but what needs proved ones.
+test-try:
+	@python3 tools/try.py $(PROGRAMS) demodriver && bash tools/test_try
+
 # Every proof from nothing, the edits that must fail, the tests, and the scripts of tests/.
 test:
-	bash .ci/run
+	@python3 tools/kit.py && bash .ci/run
 
 # The scripts of tests/ that need only the programs, over those for ARM64, under qemu-user.
 test-arm64:
@@ -86,4 +94,4 @@ deb:
 release: all arm64
 	bash tools/release $(VERSION)
 
-.PHONY: all arm64 clean demo test test-arm64 install uninstall deb release
+.PHONY: all arm64 clean demo try test-try test test-arm64 install uninstall deb release
