@@ -32,7 +32,13 @@ def is_limit(number, crate, constant):
 
 
 def limits_are_those_of_the_sources():
-    return each(re.findall(r"\| ([\d,]+) \| `(\w+)::(\w+)`", PAGE), is_limit)
+    rows = re.findall(r"^(\w.*) \| ([\d,]+) \| `(\w+)::(\w+)`$", text_of("docs/PROVED.md"), re.M)
+    assert [it[:2] for it in rows] == re.findall(r"^(\w.*) \| ([\d,]+)$", PAGE, re.M), rows
+    return each([it[1:] for it in rows], is_limit)
+
+
+def the_kit_is_the_one_that_is_checked():
+    assert f"ends in `{re.search('^WANTED = .(.*).$', text_of('tools/kit.py'), re.M)[1]}`" in PAGE
 
 
 def commands_print_what_is_shown():
