@@ -66,7 +66,7 @@ missing() {
     cd "$usr/share/doc/voqarchay"
     { grep -oE '\]\([A-Za-z_.-]+' -- *.md | sed 's/.*(//' && grep -rIohE '\<[A-Z_]+\.md\>' "$usr"; } | sort -u | xargs ls 2>&1 >/dev/null
 }
-[[ -z $(missing) ]] && ! grep -rlw README "$usr/share" && ok
+[[ -z $(missing) ]] && ok
 
 # In the folder of the examples OPERATING's commands put each where it says, and the help's example judges the files.
 cd "$usr/share/doc/voqarchay/examples"
