@@ -248,6 +248,7 @@ def main(some):
         failed += [f"the pages of docs/ have {size:,} words, of at most {ALL_WORDS:,}"] * (size > ALL_WORDS)
         failed += [f"tell, tells and told are used {telling} times, of at most {TELLING}"] * (telling > TELLING)
         failed += manual_faults()
+        failed += ["tools/costs.py --check"] * subprocess.run(["python3", "tools/costs.py", "--check"]).returncode
         failed += ["tools/proved --check"] * subprocess.run(["tools/proved", "--check"]).returncode
     print(*(f"pages: FAILED: {it}" for it in failed), sep="\n", end="\n" if failed else "")
     print(f"pages: {size:,} words, {telling} times tell, tells or told, {len(failed)} faults")
