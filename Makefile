@@ -19,7 +19,7 @@ DRIVER = lib/voqarchay/demodriver
 # for ours.
 MINE = share/voqarchay
 DOC = share/doc/voqarchay
-TEXTS = README.md SECURITY.md $(addprefix docs/, OPERATING.md power-failure.svg FROM_NUT.md INTEROP.md PROTOCOL.md DRIVER.md PROVED.md LAWS.md COSTS.md)
+TEXTS = README.md SECURITY.md $(addprefix docs/, OPERATING.md power-failure.svg costs.svg costs-small.svg FROM_NUT.md INTEROP.md PROTOCOL.md DRIVER.md PROVED.md LAWS.md COSTS.md)
 # Of a link in them to a page that isn't installed the words are left.
 UNLINKED = s|\]\(docs/|](|g; s/\[([^]]*)\]\((CHANGELOG|CONTRIBUTING|ARCHITECTURE|DECISIONS|LICENSE)(\.md[^)]*)?\)/\1/g
 EXAMPLES = $(addprefix $(DOC)/examples/, upses.conf upsd.users cmdvartab from_ups_conf.conf ups_conf_changed.conf upsd-metrics.service upsd-metrics.timer upsd-alerts.yml record.conf)

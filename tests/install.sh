@@ -64,7 +64,7 @@ cp "$folder/upsc" "$folder/upscmd"
 # Pages lead to pages that are installed, and nothing cites one that isn't.
 missing() {
     cd "$usr/share/doc/voqarchay"
-    { grep -oE '\]\([A-Za-z_.-]+' -- *.md | sed 's/.*(//' && grep -rIohE '\<[A-Z_]+\.md\>' "$usr"; } | sort -u | xargs ls 2>&1 >/dev/null
+    { grep -oE '\]\([A-Za-z_.-]+' -- *.md | sed 's/.*(//' | grep -vx https && grep -rIohE '\<[A-Z_]+\.md\>' "$usr"; } | sort -u | xargs ls 2>&1 >/dev/null
 }
 [[ -z $(missing) ]] && ok
 
