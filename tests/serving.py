@@ -15,7 +15,7 @@ import tempfile
 import termios
 import time
 
-# Under an emulator (arm64/test), memory and waits are its own: what has to come gets more time.
+# Under an emulator (arm64/test) or a checker of memory (tools/test_try), memory and waits are its own: what has to come gets more time.
 EMULATED = "EMULATED" in os.environ
 SLOWER = 5 if EMULATED else 1
 READY = b"DUMPDONE\nDATAOK\n"
