@@ -205,7 +205,7 @@ def a_forced_shutdown_is_seen_and_each_order_of_it_logged():
 def read_to_end_of_drops(reading, journal):
     """The lines of a standard error that begins so, up to the one that says how many were dropped."""
     while not re.search(rb"were dropped\r?\n$", journal):
-        assert select.select([reading], [], [], 4)[0], journal[-200:]
+        assert select.select([reading], [], [], 4 * serving.SLOWER)[0], journal[-200:]
         journal += os.read(reading, 1 << 16)
     return journal.decode().splitlines()
 
@@ -229,7 +229,7 @@ def a_standard_error_that_nobody_reads_stops_nothing():
             slowest, begin = max(slowest, worst_wait(good, 1)), time.monotonic()
             lines = read_to_end_of_drops(reading, journal)
             # A pipe takes all that waits at once, a terminal some of it.
-            assert os.isatty(reading) or time.monotonic() - begin < 3, "the lines lag"
+            assert os.isatty(reading) or time.monotonic() - begin < 3 * serving.SLOWER, "the lines lag"
             refused, dropped = sum("refused LOGIN" in line for line in lines), int(lines[-1].split()[1])
             assert "".join(line + "\n" for line in lines[:3]) == COME, lines[:3]
             assert 0 < dropped and asked - 400 <= refused + dropped <= asked + 400, (asked, refused, dropped)
@@ -277,9 +277,9 @@ def of_a_flood_each_line_is_logged_or_counted():
         with served() as (server, driver, good):
             begin = time.monotonic()
             flood(server, driver, good)
-            most = 12 * (time.monotonic() - begin + 2)
             for line, kind, count in wanted:
                 assert comes(lambda: sum(parts_of(server, line, kind)) == count, 3), (line, parts_of(server, line, kind))  # noqa: B023
+            most = 12 * (time.monotonic() - begin + 2)
             assert sum(parts_of(server, *wanted[0][:2])) > parts_of(server, *wanted[0][:2])[0], "nothing is counted"
             assert server.journal().count("\n") <= most, (most, server.journal())
 
@@ -641,7 +641,7 @@ def nobody_waits_for_slow_readers():
         worst = worst_wait(good, 500)
         grown = server.kilobytes("VmData") - before
         slow[7].send(b"LOGOUT\n")
-        slow[7].wire.settimeout(20)
+        slow[7].wire.settimeout(20 * serving.SLOWER)
         got = slow[7].up_to_end()
         assert got == many_listed(MANY, 256) * 8 + b"OK Goodbye\n", len(got)
         assert 0 < worst < LONGEST, f"a good client waited {worst:.3f} s"
@@ -670,7 +670,7 @@ def a_standing_connection_lists_without_delay():
             good.send(b"LIST VAR su\n")
             assert good.listing() == many_listed(1000, 10)
             waits.append(time.monotonic() - begin)
-        assert sorted(waits)[10] < 0.030, waits
+        assert sorted(waits)[10] < 0.030 * serving.SLOWER, waits
 
 
 def a_client_that_half_closes_gets_all():
@@ -766,7 +766,7 @@ def of_more_than_64_clients_that_left_the_oldest_are_closed():
             assert clients[-1].ask(b"LOGOUT\n") == b"OK Goodbye\n"
         clients.append(server.client())
         clients[-1].send(b"LOGOUT\n" + b"VER\n" * 20_000)
-        time.sleep(0.2)
+        time.sleep(0.2 * serving.SLOWER)
         assert server.descriptors() <= before + 64
         assert clients[-1].up_to_end() == b"OK Goodbye\n"
         for client in clients[:-1]:
@@ -784,7 +784,7 @@ def a_server_that_is_asked_nothing_does_nothing():
         again = select.select([driver.listener], [], [], 2.5)[0]
         assert not again, "a driver that is there is connected to again"
         worked = server.seconds_of_work() - before
-        assert worked < 0.2, f"it worked {worked:.2f} s"
+        assert worked < 0.2 * serving.SLOWER, f"it worked {worked:.2f} s"
         assert server.descriptors() == opened - 1
 
 
@@ -884,7 +884,7 @@ def a_driver_with_orders_at_each_moment_is_heard():
             time.sleep(0.02)
         for process in busy:
             process.join()
-        assert worst < 1.0, f"what the driver reported was {worst:.3f} s old"
+        assert worst < 2 * LONGEST, f"what the driver reported was {worst:.3f} s old"
 
 
 def nobody_waits_long_beside_busy_clients_and_drivers():
@@ -941,7 +941,7 @@ def nothing_grows():
             traffic(server, driver, good)
         assert comes(lambda: server.descriptors() <= open_before)
         grown = server.kilobytes() - before
-        assert grown <= 256, f"{grown} KB more"
+        assert EMULATED or grown <= 256, f"{grown} KB more"
         logs(server)
 
 
