@@ -105,11 +105,10 @@ def all_of(wire):
     return b"".join(pieces)
 
 
-def start(words, narrow, closed=(), stdout=subprocess.PIPE):
+def start(words, narrow, closed=(), stdout=subprocess.PIPE, stderr=subprocess.PIPE, more=("--explain",)):
     program, *rest = words
-    more = {"LD_PRELOAD": NARROW, "LED": LED, **narrow}
     # The pipe has room for all that is printed, which is read last.
-    return subprocess.Popen(serving.closing(closed, [PROGRAMS[program], *rest]), env={**os.environ, **more}, stdin=subprocess.DEVNULL, stdout=stdout, stderr=subprocess.PIPE, pipesize=1 << 20)
+    return subprocess.Popen(serving.closing(closed, [PROGRAMS[program], *more, *rest]), env={**os.environ, "LD_PRELOAD": NARROW, "LED": LED, **narrow}, stdin=subprocess.DEVNULL, stdout=stdout, stderr=stderr, pipesize=1 << 20)
 
 
 def reported(words, *lines):
@@ -184,10 +183,36 @@ def values():
     for setting, line in [("a=", b'SET VAR su a ""\n'), ("a=b=c", b'SET VAR su a "b=c"\n')]:
         words = ("upsrw", "-s", setting, "-u", "u", "-p", "p", "su")
         yield Row(words, b"OK\n" * 3, b'USERNAME "u"\nPASSWORD "p"\n' + line, b"OK\n")
+    yield from passwords()
     for value, spelled in [(b"v" * VALUE, b"v" * VALUE), (b'"' * VALUE, b'\\"' * VALUE)]:
         yield Row(("upsc", "su", "a"), b'VAR su a "%s"\n' % spelled, b"GET VAR su a\n", value + b"\n")
         words = ("upsrw", "-s", b"a=" + value, "-u", "u", "-p", "p", "su")
         yield Row(words, b"OK\n" * 3, b'USERNAME "u"\nPASSWORD "p"\nSET VAR su a "%s"\n' % spelled, b"OK\n")
+
+
+def passwords():
+    """A password comes from a file, with or without its LF, with an equals sign or a blank before the name."""
+    for content, sent in [(b"s3 cret\n", b"s3 cret"), (b"-p", b"-p"), (b"=x", b"=x"), (b"w" * 256 + b"\n", b"w" * 256)]:
+        path = BENCH.file("password", content)
+        login = b'USERNAME "admin"\nPASSWORD "%s"\n' % sent
+        yield Row(("upsrw", "-s", "a=b", "-u", "admin", "--password-file", path, "su"), b"OK\n" * 3, login + b'SET VAR su a "b"\n', b"OK\n")
+        yield Row(("upscmd", f"--password-file={path}", "-u", "admin", "su", "a"), b"OK\n" * 3, login + b"INSTCMD su a\n", b"OK\n")
+
+
+def no_passwords(words):
+    """A file that can't be read is named, and one that isn't a password is a bad argument. No server is looked for."""
+    rule = next(rule for rule in UNLAWFUL if rule.startswith("PASS"))
+    file = BENCH.file("password", b"")
+    BENCH.file("led", b"")
+    absent, folder, binary = f"{file}-absent", BENCH.folder.name, BENCH.file("binary", b"\xff\n")
+    unread = [(absent, "No such file or directory"), (folder, "Is a directory"), (binary, "stream did not contain valid UTF-8")]
+    for content in b"", b"\n", b"two\nlines\n", b"with CR\r\n", b"w" * 257, b"w" * 1000:
+        BENCH.file("password", content)
+        check_end(words, start((*words, "--password-file", file), {"LEAD_TO": "1"}), 2, ARGUMENT, rule)
+    for path, why in unread:
+        check_end(words, start((*words, "--password-file", path), {"LEAD_TO": "1"}), 2, f"{path}: {why}", "")
+    assert os.path.getsize(LED) == 0, "a server was looked for"
+    return f"{6 + len(unread)} files"
 
 
 def longest_listings():
@@ -222,8 +247,10 @@ USER = ("-u", "u", "-p", "p", "su")
 # Words, by what the wrong one has to be.
 UNLAWFUL = {
     "UPS has to be ups[@host[:port]], with a host of letters, digits, . and -":
-        [("upsc", ups) for ups in ("", "su@", "bad name", "su@ho_st", "su@::1", "su@host:65536")] + [("upscmd", "-l", "su@a b"), ("upsrw", "su@host:0")],
+        [("upsc", ups) for ups in ("", "su@", "bad name", "su@ho_st", "su@host:65536")] + [("upscmd", "-l", "su@a b"), ("upsrw", "su@host:0")],
     "HOST has to be host[:port], with a host of letters, digits, . and -": [("upsc", "-l", "ho_st"), ("upsc", "-L", "host:x")],
+    "an IPv6 address needs a host name, as /etc/hosts gives one":
+        [("upsc", "su@::1"), ("upsc", "su@[::1]:3493"), ("upscmd", "-l", "su@fe80::1%eth0"), ("upsc", "-l", "[::1]"), ("upsc", "-L", "2001:db8::7")],
     "VAR has to be 1 to 64 letters, digits, . - _": [("upsc", "su", "a/b")],
     "CMD has to be 1 to 64 letters, digits, . - _": [("upscmd", *USER, "load/off")],
     "ID has to be one that --track printed": [("upsc", "--tracked", text, "su") for text in (ID[:-1], ID.replace("-", ""), "{" + ID + "}")],
@@ -231,7 +258,6 @@ UNLAWFUL = {
     "VALUE has to be at most 512 bytes, none of them a control character": [("upscmd", *USER, "a", value) for value in ("\n", "v" * (VALUE + 1))],
     "USER has to be 1 to 64 bytes, none of them a control character": [("upscmd", "-u", user, "-p", "p", "su", "a") for user in ("", "u" * 65)],
     "PASS has to be 1 to 256 bytes, none of them a control character": [("upsrw", "-s", "a=b", "-u", "u", "-p", word, "su") for word in ("", "\x1b[31m")],
-    "a word is not UTF-8": [("upsc", b"su\xff")],
 }  # fmt: skip
 
 
@@ -246,9 +272,10 @@ def check_unlawful(wrong):
 
 
 WRONG_WORDS = {
-    "upsc": ["su ups.status more", "-c", "-l -L", "-l localhost ups.status", "--attached", "--attached -c su", "--attached su ups.status", "--tracked",
+    "upsc": ["su ups.status more", "-c", "-l -L", "-l localhost ups.status", "--password-file led su", "--attached", "--attached -c su", "--attached su ups.status", "--tracked",
              *(f"--tracked {ID}{more}" for more in ("", " -l", " -c su", " --attached su", " su ups.status"))],
-    "upsrw": ["-s ups.delay=30 su", "-u admin su", "--track su"],
+    "upsrw": ["-s ups.delay=30 su", "-u admin su", "--track su", "--password-file led su", "-s a=b -u admin su --password-file",
+              "-s a=b -u admin -p pw --password-file led su", "-s a=b -u admin --password-file led --password-file=led su"],
     "upscmd": ["su load.off", "-l su load.off", "--track -l su", "--track -u admin -p pw su", "-u admin -p pw su"],
 }  # fmt: skip
 
@@ -268,7 +295,7 @@ def cut_replies():
     """Nothing is printed."""
     for count in range(len(LISTED)):
         yield Row(LIST, LISTED[:count], ASKED, fault=EARLY, why=CLOSED if count else SENT_AWAY)
-        yield Row(LIST, LISTED[:count], ASKED, fault=READ, why=RESET, ending=FAILS)
+        yield Row(LIST, LISTED[:count], ASKED, fault=READ, why=RESET if count else SENT_AWAY, ending=FAILS)
 
 
 def bad_replies():
@@ -373,7 +400,7 @@ def check_unreached(programs):
     for words in programs:
         check_end(words, start(words, {"LEAD_TO": "1"}), 1, connect, f"{words_server(words)}: Connection refused")
     nowhere = "no-such-host.invalid"
-    child = subprocess.Popen([PROGRAMS["upsc"], f"su@{nowhere}"], stdout=subprocess.PIPE, stderr=subprocess.PIPE)
+    child = subprocess.Popen([PROGRAMS["upsc"], "--explain", f"su@{nowhere}"], stdout=subprocess.PIPE, stderr=subprocess.PIPE)
     printed, faults = child.communicate(timeout=PATIENCE)
     begun = reported(("upsc",), connect) + f"upsc: {nowhere}: failed to lookup address information".encode()
     assert (printed, child.returncode, faults.startswith(begun), faults.count(b"\n")) == (b"", 1, True, 2), faults
@@ -400,6 +427,48 @@ def words_server(words):
     return SERVER.replace("3493", "3494") if words == SET else SERVER
 
 
+# Where a fault is explained.
+
+
+def explained():
+    """Faults of each kind: what the server sends, if it is met, the fault, and the line that explains it."""
+    for words in LIST, SET, ("upscmd", "-l", "su"):
+        yield words, None, "cannot connect", f"{words_server(words)}: Connection refused"
+        yield words, b"ERR ACCESS-DENIED\n", "server answered ERR ACCESS-DENIED", DENIED
+        yield words, b"", EARLY, f"{words_server(words)}: sent away: the server is full"
+        yield words, b"\n", BAD, f"{words_server(words)}: no reply of a UPS server came"
+        yield (words[0], *USER[:-1], "a b", "c") if words[0] == "upscmd" else (*words[:-1], "a b"), None, ARGUMENT, next(iter(UNLAWFUL))
+    yield ("upsc", b"su\xff"), None, ARGUMENT, "a word is not UTF-8"
+
+
+def shown_on(terminal, words, reply):
+    """What the program's standard error gets, a terminal or a pipe."""
+    reading, writing = os.openpty() if terminal else os.pipe()
+    if terminal:
+        tty.setraw(writing)
+    child = start(words, {"LEAD_TO": str(PEER.port) if reply is not None else "1"}, stderr=writing, more=())
+    os.close(writing)
+    if reply is not None:
+        PEER.meet(reply, ENDS, child)
+    child.communicate(timeout=PATIENCE)
+    faults = b""
+    with contextlib.suppress(OSError):  # a terminal that nobody has open any more
+        while piece := os.read(reading, 4096):
+            faults += piece
+    os.close(reading)
+    return faults
+
+
+def check_explained(rows):
+    """A program that reads standard error gets each fault as one line; a person at a terminal gets the one that explains it, too."""
+    count = 0
+    for words, reply, fault, why in rows:
+        assert (got := shown_on(False, words, reply)) == reported(words, fault), f"{words}: {got}"
+        assert (got := shown_on(True, words, reply)) == reported(words, fault, why), f"{words}: {got}"
+        count += 1
+    return f"{count} faults"
+
+
 # What each word of a refusal means.
 
 
@@ -423,6 +492,8 @@ def main():
     BENCH.case("an address that refuses isn't the last", check_led, TWO_ADDRESSES, {"REFUSING": REFUSING})
     BENCH.case("unlawful words are bad arguments", check_unlawful, UNLAWFUL)
     BENCH.case("other words and the help", other_words)
+    BENCH.case("faults are one line, and two on a terminal", check_explained, explained())
+    BENCH.case("files without a password", no_passwords, ("upsrw", "-s", "a=b", "-u", "admin", "su"))
     BENCH.case("each word of a refusal has a meaning", check_meanings)
     BENCH.case("a full output", check_full_output, LIST)
     BENCH.case("nothing is sent after a refusal", check, rows("a reply that ends the job"))

@@ -10,7 +10,8 @@ pairs "- TEXT" and "+ TEXT", each of one line, whose first stands in the file ex
 Entries of different functions make a round: one check of the edited functions and what they call. Refused is an
 entry only where a goal of its own function stays open; that a callee isn't proved counts for nothing, since a caller
 is checked against its callee's contract. A round counts only where it reached the prover and no function that nobody
-edited has an open goal; else it is halved. What a round left is judged alone. The last line says how many were refused.
+edited has an open goal; else it is halved. What a round left is judged alone. Of each refused entry it is said whether its function has
+a proof by hand, which may hand over a witness that no longer fits though another one would. The last line says how many were refused.
 
 What was refused is kept on this machine beside what `rt ci` keeps, by a sum of the entry, of this file, of the kit and
 of all sources that the check reads. So a later run over the same sources judges the others."""
@@ -32,6 +33,7 @@ from kit import rt, rtlib
 
 LIST = "edits.txt"
 KEPT = f"{rt.STORE}-edits"
+BY_HAND = ", of a proof by hand"
 
 
 class Edit:
@@ -41,6 +43,7 @@ class Edit:
         self.title, place, *pairs = entry.split("\n")
         self.name = f"{crate.name}: {self.title}"
         self.path, _, self.function = place.partition(", ")
+        self.by_hand = os.path.isdir(os.path.join(crate.folder, "proofs", *self.function.split("::")))
         self.pairs = [(old[2:], new[2:]) for old, new in zip(pairs[::2], pairs[1::2])]
         # In the form of the kit, which says why an entry can't be applied.
         self.text = f"file: {self.path}\n" + "".join(f"old: {old}\nnew: {new}\n" for old, new in self.pairs)
@@ -151,7 +154,7 @@ def judge(crate, edits, anew=False):
             judged |= in_round(crate, left, kept)
             if left and not anew:
                 keep(file, before | {key(it): why for it, why in judged.items()})
-    said = [f"{it.name}: refused: {why[:160]}" for it, why in judged.items()]
+    said = [f"{it.name}: refused{BY_HAND * it.by_hand}: {why[:160]}" for it, why in judged.items()]
     return said, [it.name + f" ({it.why})" * bool(it.why) for it in edits if it not in judged]
 
 
@@ -179,7 +182,7 @@ def main(words):
     rtlib.guarded()
     log, names = (words[1], []) if words[:1] == ["--beside"] else (None, [it for it in words if it != "--anew"])
     left = [it for it in rtlib.crates_below(os.getcwd()) if edits_of(it) and (not names or it.name in names)]
-    running, refused, failed = set(), 0, []
+    running, refused, by_hand, failed = set(), 0, 0, []
     with futures.ThreadPoolExecutor(rt.processors()) as pool:
         while left or running:
             log_said = log and rtlib.text_of(log) or ""
@@ -193,11 +196,13 @@ def main(words):
                 for line in said:
                     print(f"edits: {line}", flush=True)
                 refused += len(said)
+                by_hand += sum(BY_HAND in line for line in said)
                 failed += stayed
             if not running:
                 time.sleep(1)
     for name in failed:
         print(f"edits: FAILED: {name}")
+    print(f"edits: {by_hand} refused of functions with a proof by hand")
     print(f"edits: {refused} refused, {len(failed)} failed", flush=True)
     return 1 if failed else 0
 

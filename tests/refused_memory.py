@@ -109,7 +109,7 @@ def client_in_turn(program, want, *words):
     name = os.path.basename(program)
     fault, given = f"{name}: no memory\n", f"{name}: the order may have been given: look before you try again\n"
     faults = {fault.encode(), (fault + given * ("-u" in words)).encode()}
-    return in_turn([program, *words], want, lambda got: "no memory" if got[:2] == (1, b"") and got[2] in faults else None)
+    return in_turn([program, "--explain", *words], want, lambda got: "no memory" if got[:2] == (1, b"") and got[2] in faults else None)
 
 
 def client_cases(folder):
@@ -143,17 +143,17 @@ def serving(reported):
         yield ends
 
 
-def a_listing_that_began_asks_for_no_memory():
-    """From the first byte that a client has taken of it on, every request is refused: the listing comes whole."""
+def a_listing_asks_for_no_memory():
+    """From before `LIST VAR` is sent, every request is refused: it is accepted, and the listing comes whole."""
     value = b'"' + b'\\"' * 512 + b'"'
     items = [b"su %064d %b\n" % (number, value) for number in range(1, MANY)]
     want = b"BEGIN LIST VAR su\n" + b"".join(b"VAR " + item for item in items) + SERVED + b"END LIST VAR su\n"
     with serving(b"".join(item.replace(b"su", b"SETINFO", 1) for item in items) + STATUS) as (server, _, _):
         client = server.client(buffer=4096)
-        client.send(b"LIST VAR su\n")
-        client.kept = client.wire.recv(1)
+        assert client.ask(b"NETVER\n") == b"1.3\n"
         before = CONTROL.requests
         CONTROL.refuse_all()
+        client.send(b"LIST VAR su\n")
         got = client.listing()
         assert got == want, f"{len(got)} bytes, not {len(want)}"
         assert (CONTROL.requests, CONTROL.refused) == (before, 0), f"{CONTROL.requests - before} requests"

@@ -5,7 +5,7 @@ import os
 import re
 
 from answers import ADDRESS, Row, tables
-from replaying import HERE, Bench, built, cases, each, ends_in_full, lines, plain, sent, text_of, written
+from replaying import HERE, Bench, built, cases, each, ends_in_full, ends_on_a_terminal, lines, plain, sent, text_of, written
 
 BENCH = Bench("replay", *built("upsd"))
 NO_DRIVER = sent("driver su", b"")
@@ -39,11 +39,12 @@ def table_case(title, rows):
 
 def script_case(_, parts, files):
     """What is printed is the output that stands there, or what the plain server prints."""
-    script = written(parts.get("script", ""))
+    script = written(parts["cut"].rstrip("\n"))[:-1] if "cut" in parts else written(parts.get("script", ""))
+    faults = lines(f"upsd: {BENCH.folder.name}/{it}" for it in parts.get("fault", "").split("\n") if it)
     if "output" in parts:
-        BENCH.prints(script, written(re.sub(r"(^|\n)\n\Z", r"\1", parts["output"])), **files)
-    elif "fault" in parts:
-        BENCH.faults(script, lines(f"upsd: {it}" for it in f"{BENCH.folder.name}/{parts['fault']}".strip().split("\n")), **files)
+        BENCH.prints(script, written(re.sub(r"(^|\n)\n\Z", r"\1", parts["output"])), faults, **files)
+    elif faults:
+        BENCH.faults(script, faults, **files)
     else:
         BENCH.agrees(script, **files)
 
@@ -94,16 +95,20 @@ HELP = {
 
 
 def ends_so(words, *want):
-    ended = BENCH.ends("replay", *words.split(" "))
-    assert ended == want, ended
+    status, printed, faults = want
+    if faults:
+        BENCH.faults_of_words(status, faults, "replay", *words.split(" "))
+    else:
+        ended = BENCH.ends("replay", *words.split(" "))
+        assert ended == (status, printed, b""), ended
 
 
 def other_words():
     """Words that are refused, one that is no text, an output that is full, and the help."""
     for words in WRONG_WORDS:
         BENCH.refuses_words(*words.split())
-    status, printed, faults = BENCH.ends("replay", b"\xff")
-    assert (status, printed, faults.partition(b"\n")[0]) == (2, b"", b"upsd: bad argument"), faults
+    ended = BENCH.ends("replay", b"\xff"), ends_on_a_terminal(BENCH.program, "replay", b"\xff")
+    assert ended == ((2, b"", b"upsd: bad argument\n"), (2, b"upsd: bad argument\nupsd: a word is not UTF-8\n")), ended
     full = ends_in_full(BENCH.program, "replay", BENCH.file("netver", b"open 192.0.2.1\nclient 1 NETVER\ntook 1 all\n"))
     assert full == (1, b"upsd: write failed\n"), full
     return each(HELP.items(), lambda words, named: BENCH.prints_help(named, *words.split(" ")))

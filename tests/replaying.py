@@ -6,6 +6,7 @@ import subprocess
 import sys
 import tempfile
 import time
+import tty
 
 from plain_server import Replay, Server
 
@@ -47,15 +48,24 @@ class Bench:
     def replay(self, script, files):
         return self.ends("replay", *self.options(files), self.file("script", script))
 
-    def prints(self, script, want, **files):
-        """The replay over these files is done, and prints this."""
+    def prints(self, script, want, remarks=b"", **files):
+        """The replay over these files is done, and prints this, and these remarks on standard error."""
         status, printed, faults = self.replay(script, files)
-        assert (status, faults) == (0, b""), (status, faults)
+        assert (status, faults) == (0, remarks), (status, faults)
         assert printed == want, difference(printed, want)
 
     def agrees(self, script, **files):
         """The replay is done, and prints what the plain server does."""
         self.prints(script, Replay(Server(**files)).output(script), **files)
+
+    def faults_of_words(self, status, fault, *words):
+        """The program ends by this status. Standard error gets the fault's line; a terminal, or where that is asked for, this whole text."""
+        line = fault.partition(b"\n")[0] + b"\n"
+        command, *rest = words
+        for got, want in [(self.ends(*words), line), (self.ends(command, "--explain", *rest), fault)]:
+            assert got == (status, b"", want), (words, got)
+        got = ends_on_a_terminal(self.program, *words, cwd=self.folder.name)
+        assert got == (status, fault), (words, got)
 
     def faults(self, script, fault, **files):
         status, printed, faults = self.replay(script, files)
@@ -135,8 +145,8 @@ def written(text):
 
 def cases(path):
     """The title of each case of a file, what it has, and its files. A case begins with a line `== TITLE`. After lines `-- ups`, `-- users`
-    and `-- vars` stand the files, after `-- script` the script, and after `-- output` what is printed, whose last line is blank where a case
-    follows, or after `-- fault` the fault."""
+    and `-- vars` stand the files, after `-- script` the script, or after `-- cut` one whose last line has no LF, after `-- output` what is
+    printed, whose last line is blank where a case follows, and after `-- fault` the fault."""
     for case in re.split("^== ", text_of(path), flags=re.MULTILINE)[1:]:
         title, text = case.split("\n", 1)
         parts = dict(re.findall(r"^-- (\w+)\n(.*?)(?=^-- |\Z)", text, re.MULTILINE | re.DOTALL))
@@ -148,6 +158,18 @@ def ends_in_full(*words):
     with open("/dev/full", "wb") as full:
         ended = subprocess.run(words, stdout=full, stderr=subprocess.PIPE, timeout=60, check=False)
     return ended.returncode, ended.stderr
+
+
+def ends_on_a_terminal(*words, **more):
+    """How a program ends whose standard error is a terminal: its status, and what is shown there."""
+    reading, terminal = os.openpty()
+    tty.setraw(terminal)
+    ended = subprocess.run(words, stdin=subprocess.DEVNULL, stdout=subprocess.DEVNULL, stderr=terminal, timeout=60, check=False, **more)
+    os.set_blocking(reading, False)
+    shown = os.read(reading, 1 << 16) if ended.returncode else b""
+    for end in reading, terminal:
+        os.close(end)
+    return ended.returncode, shown
 
 
 def each(rows, check):

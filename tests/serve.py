@@ -80,7 +80,7 @@ def words_and_files_are_reported_as_faults():
     bad = file("bad", "nothing\n")
     for listen in ["localhost:3493", "127.0.0.1", "127.0.0.1:65536", ""]:
         fault = f"upsd: bad argument\nupsd: --listen {listen}: not an IP address and a port\n"
-        assert BENCH.ends("serve", *files, "--listen", listen) == (2, b"", fault.encode()), listen
+        BENCH.faults_of_words(2, fault.encode(), "serve", *files, "--listen", listen)
     for words in [["--maxage", "2"], ["--maxage", "86401"], ["--maxage", "x"], ["more"]]:
         status, out, faults = BENCH.ends("serve", *files, *words)
         assert (status, out, faults[:7]) == (2, b"", b"error: "), words
@@ -94,7 +94,7 @@ def words_and_files_are_reported_as_faults():
             (["--ups", ups, "--users", users, "--vars", bad], f"{bad}:1: cause 1\nupsd: cause 1: malformed line"),
             (files + ["--ids", absent, "--listen", "192.0.2.1:1"], missing),
             (files + ["--listen", "192.0.2.1:1"], "cannot listen\nupsd: 192.0.2.1:1: Cannot assign requested address")]:
-        assert BENCH.ends("serve", *words) == (1, b"", f"upsd: {fault}\n".encode()), words
+        BENCH.faults_of_words(1, f"upsd: {fault}\n".encode(), "serve", *words)
     ended = ends_in_full(UPSD, "serve", *files, "--listen", "127.0.0.1:0")
     assert ended == (1, b"upsd: write failed\n"), ended
 
@@ -122,13 +122,14 @@ def dangers_of_the_files_are_warned_of():
         os.chmod(users, mode)
         warnings = [f"upsd: warning: {users}: everybody may read it"] * is_warned + lines
         assert warned(ups, "--users", users) == (warnings, 0), oct(mode)
+    with contextlib.closing(serving.Server(UPSD, ups, "--users", users, "--priorities")) as server:
+        assert [line[3:] for line in server.journal().splitlines() if line.startswith("<4>upsd: warning: ")] == warnings
     assert warned(ups, "--users", path("users")) == ([], 0)
     example = warned(ups, "--users", f"{HERE}/../examples/upsd.users")[0]
     assert sum(line.endswith(EXAMPLE) for line in example) == 2
     # Of a file that is refused only the cause is reported.
     refused = file("refused", dangerous + "[d]\n")
-    ended = BENCH.ends("serve", "--ups", path("list"), "--users", refused)
-    assert ended == (1, b"", f"upsd: {refused}:12: cause 4\nupsd: cause 4: duplicate\n".encode())
+    BENCH.faults_of_words(1, f"upsd: {refused}:12: cause 4\nupsd: cause 4: duplicate\n".encode(), "serve", "--ups", path("list"), "--users", refused)
 
 
 def what_the_files_lack_is_warned_of():
@@ -968,7 +969,7 @@ def it_starts_again_at_its_port_and_at_none_that_is_taken():
     with served() as (server, driver, good):
         words = ["--ups", path("su.conf"), "--users", path("users"), "--listen", f"127.0.0.1:{server.port}"]
         fault = f"upsd: cannot listen\nupsd: {words[-1]}: Address already in use\n"
-        assert BENCH.ends("serve", *words) == (1, b"", fault.encode())
+        BENCH.faults_of_words(1, fault.encode(), "serve", *words)
         server.close()
         driver.lose()
         with begun(path("su.conf"), port=server.port) as again:

@@ -107,10 +107,17 @@ abbrev pub with_words : App → List Row → App
 with_words app [] = app
 with_words app ((rule, bond) ∷ rows) = with_words (with_rule app (rule_by rule bond)) rows
 
--- A program of this name, which prints its version, with these words.
+-- The same, with `--explain` too.
+abbrev pub explained : App → App
+explained app = with_words app ((long_flag (codes "explain"), Free) ∷ [])
+
+-- A program of this name, which prints its version.
+abbrev pub program_of : Text → App
+program_of name = record { top = record (new_shape name) { has_version = true }; subs = [] }
+
+-- The same with these words, and with `--explain`.
 abbrev pub program_with : Text → List Row → App
-program_with name rows =
-    with_words (record { top = record (new_shape name) { has_version = true }; subs = [] }) rows
+program_with name rows = explained (with_words (program_of name) rows)
 
 -- Whether the flag was given.
 abbrev pub IsFlag : ArgMatches → Text → Bool → Type 0

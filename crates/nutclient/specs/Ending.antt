@@ -1,5 +1,5 @@
 -- With which status a program ends, and what it prints on standard error.
-use Rattle.std.specs.Prelude.{◌≡◌, ℕ, Bool, List, [], ◌∷◌, ◌++◌, Option, Result, Ok, Err, codes}
+use Rattle.std.specs.Prelude.{◌≡◌, ℕ, Bool, true, false, List, [], ◌∷◌, ◌++◌, Option, Result, Ok, Err, codes}
 use Rattle.std.specs.List.{flat_map}
 use Rattle.nutio.specs.Ends.{Received, Written}
 use Rattle.nutrequest.specs.Request.{request_line}
@@ -31,6 +31,11 @@ abbrev pub why_line : Program → List ℕ → List ℕ
 why_line program [] = []
 why_line program (b ∷ why) = name_of program ++ (codes ": " ++ (b ∷ why ++ 10 ∷ []))
 
+-- Why a fault came, where that is explained.
+abbrev pub explained : Bool → List ℕ → List ℕ
+explained true why = why
+explained false why = []
+
 -- The status is the fault's, and the fault's line is sent, and the one that says why, whether or
 -- not all of it is taken.
 abbrev pub Reports : {E : Type 0} → (E → Option (List ℕ)) → (E → ℕ) → Program → ClientFault
@@ -40,24 +45,25 @@ Reports contents failures program fault why err status after =
     × SendGives contents failures (fault_line program fault ++ why_line program why) err sent after
 
 -- By what came of it: where it is done, the status is 0, and nothing is reported; a fault is
--- reported, and why it came.
-abbrev pub EndsBy : {E : Type 0} → (E → Option (List ℕ)) → (E → ℕ) → Program
+-- reported, and why it came, where that is explained.
+abbrev pub EndsBy : {E : Type 0} → (E → Option (List ℕ)) → (E → ℕ) → Bool → Program
     → Result (Unit {0}) ClientFault → E → ℕ → E → Type 0
-EndsBy contents failures program (Ok done) err status after = (status ≡ 0) × (after ≡ err)
-EndsBy contents failures program (Err fault) err status after =
-    (why : List ℕ) × Reports contents failures program fault why err status after
+EndsBy contents failures is_explained program (Ok done) err status after =
+    (status ≡ 0) × (after ≡ err)
+EndsBy contents failures is_explained program (Err fault) err status after = (why : List ℕ)
+    × Reports contents failures program fault (explained is_explained why) err status after
 
 -- What came of a job over these two ends: what was sent, what came and what was printed, and by
 -- that the status and what is reported.
 abbrev pub DoesJob : {R W O E : Type 0} → (R → Option (List ℕ)) → (R → ℕ) → (W → Option (List ℕ))
-    → (W → ℕ) → (O → Option (List ℕ)) → (O → ℕ) → (E → Option (List ℕ)) → (E → ℕ) → Program
+    → (W → ℕ) → (O → Option (List ℕ)) → (O → ℕ) → (E → Option (List ℕ)) → (E → ℕ) → Bool → Program
     → List Request → Form → Bool → R → W → O → E → ℕ → List ℕ → R → W → O → E → Type 0
 DoesJob remaining failures contents write_failures printed print_failures reported report_failures
-    program requests form is_terminal reader writer out err status rest after sent then told =
+    is_explained program requests form is_terminal reader writer out err status rest after sent then told =
     (outcome : Result (Unit {0}) ClientFault)
     × RunGives remaining failures contents write_failures printed print_failures
     requests form is_terminal [] reader writer out outcome rest after sent then
-    × EndsBy reported report_failures program outcome err status told
+    × EndsBy reported report_failures is_explained program outcome err status told
 
 -- A job that is done: the writer took the line of each request, once and in their order; what came
 -- is a whole reply to each; and the output took the text of the last one's items.

@@ -1,6 +1,6 @@
 -- With which status a program ends, by its command line.
-use Rattle.std.specs.Prelude.{◌≡◌, ◌≢◌, ◌≤◌, ℕ, List, None, Result, IfOk, MatchResult, unwrap_or}
-use Rattle.clap.specs.Words.{App, HasMatchesOf, kind_of}
+use Rattle.std.specs.Prelude.{◌≡◌, ◌≢◌, ◌≤◌, ℕ, None, unwrap_or}
+use Rattle.clap.specs.Words.{kind_of}
 use Rattle.clap.specs.declared.error.Error.{Error}
 use Rattle.clap.specs.declared.parser.matches.ArgMatches.{ArgMatches}
 use Rattle.nutargs.specs.Refusal.{refusal_status}
@@ -16,10 +16,3 @@ EndsAsAsked asks found status = (given : Given) × asks found given
 -- By why the words were refused: 1 where there was no memory.
 abbrev pub EndsAsRefused : Error → ℕ → Type 0
 EndsAsRefused error status = status ≡ unwrap_or (refusal_status (kind_of error)) 1
-
--- By what the program's parser makes of the words.
-abbrev pub EndsByWords : App → (ArgMatches → Given → Type 0) → List (List ℕ) → ℕ → Type 0
-EndsByWords app asks words status =
-    (parsed : Result ArgMatches Error) × IfOk parsed (HasMatchesOf app words)
-    × MatchResult parsed (λ found. EndsAsAsked asks found status)
-    (λ error. EndsAsRefused error status)

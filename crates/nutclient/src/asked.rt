@@ -4,7 +4,7 @@ ghost use Rattle.nutclient.specs.Job.{job_of};
 ghost use Rattle.nutclient.specs.Start.{EndsAsAsked};
 ghost use Rattle.nutclient.specs.declared.given.Given.{Given};
 
-use crate::clues::{Clues, Why};
+use crate::clues::Clues;
 use crate::connection::Network;
 use crate::ending::report;
 use crate::{Client, Job, do_job};
@@ -27,15 +27,15 @@ pub(crate) fn obey<C: Client, N: Network, O: Sink, E: Sink>(
 ) -> u8
     ensures gives { (given : Given) × C.asks found.now given
         × Obeys N.Reader.remaining N.Reader.failures N.Writer.contents N.Writer.failures
-        O.contents O.failures E.contents E.failures (N.connects network.now) C.PROGRAM
-        (job_of given) is_terminal out.old err.old result out.new err.new }
+        O.contents O.failures E.contents E.failures (N.connects network.now)
+        clues.now.is_explained C.PROGRAM (job_of given) is_terminal out.old err.old result out.new err.new }
     ensures status { EndsAsAsked C.asks found.now result }
 {
     let program = C::PROGRAM;
     let job = match Job::read(&C::given(found)) {
         Ok(job) => job,
         Err(part) => {
-            let why = Why::from(part.rule()).unwrap_or_default();
+            let why = clues.why_of(part.rule());
             return report(err, program, &ClientFault::BadTarget, &why);
         }
     };

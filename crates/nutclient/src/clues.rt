@@ -1,7 +1,8 @@
 //! Why a program meets a fault: what its second line says.
-ghost use Rattle.std.specs.Prelude.{◌≡◌};
+ghost use Rattle.std.specs.Prelude.{◌≡◌, List, ℕ};
 ghost use Rattle.std.specs.List.{list_any};
 ghost use Rattle.nutclient.specs.Clues.{is_order, is_refusal, may_be_given};
+ghost use Rattle.nutclient.specs.Ending.{explained};
 
 use crate::Job;
 use crate::limits::{WAIT_SECONDS, WHY_LIMIT};
@@ -28,6 +29,8 @@ pub(crate) enum Place {
 /// that a call failed.
 #[derive(Drop)]
 pub struct Clues {
+    /// Whether a second line explains a fault.
+    pub is_explained: bool,
     /// The address that was tried last: none where the host isn't found.
     address: Cell<Option<SocketAddr>>,
     failed: Cell<Option<(Place, Error)>>,
@@ -38,8 +41,11 @@ pub struct Clues {
 
 impl Clues {
     /// Nothing was met yet.
-    pub fn new() -> Clues {
+    pub fn new(is_explained: bool) -> Clues
+        ensures { result.is_explained ≡ is_explained }
+    {
         Clues {
+            is_explained,
             address: Cell::new(None),
             failed: Cell::new(None),
             has_heard: Cell::new(false),
@@ -73,23 +79,40 @@ impl Clues {
     }
 
     /// Why this job met the fault.
-    pub(crate) fn why(&self, job: &Job, fault: &ClientFault) -> Why {
+    pub(crate) fn why(&self, job: &Job, fault: &ClientFault) -> Why
+        ensures { result.bytes ≡ explained self.now.is_explained result.bytes }
+    {
         let mut why = Why::new();
-        // What has no room is left out.
-        let _ = self.push_why(job, fault, &mut why);
+        if self.is_explained {
+            // What has no room is left out.
+            let _ = self.push_why(job, fault, &mut why);
+        }
         why
+    }
+
+    /// This text as why a fault came.
+    pub(crate) fn why_of(&self, text: &str) -> Why
+        ensures { result.bytes ≡ explained self.now.is_explained result.bytes }
+    {
+        if self.is_explained {
+            Why::from(text).unwrap_or_default()
+        } else {
+            Why::new()
+        }
     }
 
     fn push_why(&self, job: &Job, fault: &ClientFault, why: &mut Why) -> fmt::Result {
         let server = job.target.address().0;
         match fault {
             ClientFault::ErrWord(word) => why.write_str(meaning(word.as_bytes()))?,
-            ClientFault::EarlyEnd if self.has_heard.get() => {
-                self.push_of_server(server, "the server closed the connection", why)?;
-            }
-            ClientFault::EarlyEnd => self.push_of_server(
+            _ if self.was_sent_away(fault) => self.push_of_server(
                 server,
                 "sent away: the server is full",
+                why,
+            )?,
+            ClientFault::EarlyEnd => self.push_of_server(
+                server,
+                "the server closed the connection",
                 why,
             )?,
             ClientFault::BadReply => self.push_of_server(
@@ -108,6 +131,22 @@ impl Clues {
             )?;
         }
         Ok(())
+    }
+
+    /// Nothing came before the connection ended, or was reset since the server closed it without
+    /// reading.
+    fn was_sent_away(&self, fault: &ClientFault) -> bool {
+        let has_ended = match fault {
+            ClientFault::EarlyEnd => true,
+            ClientFault::Read => self.was_reset(),
+            _ => false,
+        };
+        has_ended && !self.has_heard.get()
+    }
+
+    fn was_reset(&self) -> bool {
+        let failed = self.failed.get();
+        failed.is_some_and(|(_, error)| error.kind() == ErrorKind::ConnectionReset)
     }
 
     fn push_of_server(&self, server: &str, text: &str, why: &mut Why) -> fmt::Result {

@@ -30,8 +30,8 @@ pub fn do_job<R: Source, W: Sink, O: Sink, E: Sink>(
 ) -> (u8, Session<R, W>)
     // What was sent, what came and what was printed, and by that the status and what is reported.
     ensures gives { DoesJob R.remaining R.failures W.contents W.failures O.contents O.failures
-        E.contents E.failures program job.now.requests.items job.now.form is_terminal
-        reader writer out.old err.old result.0
+        E.contents E.failures clues.now.is_explained program
+        job.now.requests.items job.now.form is_terminal reader writer out.old err.old result.0
         (unread_of result.1) (reader_of result.1) (writer_of result.1) out.new err.new }
     // Status 0 says that each request was sent once, and that what is printed is the last reply.
     ensures done { result.0 ≡ 0 → IsDone R.remaining R.failures W.contents W.failures O.contents

@@ -86,7 +86,15 @@ fn single(target: Target, request: Request, form: Form) -> Job
 fn place(text: &str) -> Result<UpsPlace, Part>
     ensures { result_ok result ≡ ups_place_of text.now }
 {
-    Target::read(text).ok_or(Part::Ups)
+    Target::read(text).ok_or(wrong_server(text, Part::Ups))
+}
+
+/// What is wrong in the name of a server, which is this part: an IPv6 address has two colons.
+fn wrong_server(text: &str, part: Part) -> Part {
+    match text.split_once(':') {
+        Some((_, more)) if more.contains(':') => Part::Ipv6,
+        _ => part,
+    }
 }
 
 /// The name of a variable or a command.
@@ -122,7 +130,7 @@ fn upses_job(server: Option<&str>, form: Form) -> Result<Job, Part>
         ≡ upses_of form (server_or_local server.entry) }
 {
     let target = match server {
-        Some(text) => Target::host(text).ok_or(Part::Host)?,
+        Some(text) => Target::host(text).ok_or(wrong_server(text, Part::Host))?,
         None => Target::local(),
     };
     Ok(single(target, Request::List(Query::Ups), form))

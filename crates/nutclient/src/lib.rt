@@ -15,6 +15,7 @@ pub mod laws;
 mod limits;
 mod meaning;
 mod part;
+mod password;
 mod printed;
 mod program;
 mod shown;

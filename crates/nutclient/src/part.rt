@@ -5,6 +5,8 @@
 pub enum Part {
     Ups,
     Host,
+    /// The server is named by an IPv6 address.
+    Ipv6,
     Variable,
     Command,
     Id,
@@ -22,6 +24,7 @@ impl Part {
                 "UPS has to be ups[@host[:port]], with a host of letters, digits, . and -"
             }
             Part::Host => "HOST has to be host[:port], with a host of letters, digits, . and -",
+            Part::Ipv6 => "an IPv6 address needs a host name, as /etc/hosts gives one",
             Part::Variable => "VAR has to be 1 to 64 letters, digits, . - _",
             Part::Command => "CMD has to be 1 to 64 letters, digits, . - _",
             Part::Id => "ID has to be one that --track printed",

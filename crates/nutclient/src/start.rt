@@ -1,21 +1,24 @@
 //! What the `main` of each program does: it takes the words, the network and the two outputs from
 //! the system.
-ghost use Rattle.std.specs.Prelude.{◌≡◌, ◌≤◌, ℕ, List, IfOk, MatchResult, Result, map, string_bytes};
+ghost use Rattle.std.specs.Prelude.{◌≡◌, ◌≤◌, IfOk, map, string_bytes};
 ghost use Rattle.std.specs.Process.{exit_status};
 ghost use Rattle.clap.specs.Words.{HasMatchesOf};
 ghost use Rattle.nutrequest.specs.Fault.{status_of};
-ghost use Rattle.nutrequest.specs.declared.faults.ClientFault.{ClientFault};
 ghost use Rattle.nutclient.specs.Ending.{name_of};
-ghost use Rattle.nutclient.specs.Start.{EndsAsAsked, EndsAsRefused, EndsByWords};
+ghost use Rattle.nutclient.specs.Start.{EndsAsAsked, EndsAsRefused};
 ghost use Rattle.nutargs.specs.Words.{program_with};
 
 use crate::asked::obey;
-use crate::clues::{Clues, Why};
+use crate::clues::Clues;
 use crate::connection::{Output, Tcp};
 use crate::limits::WORD_FAULT;
+use crate::password::put_password;
 use crate::{Client, Program, ending};
 use clap::{ArgMatches, Command, Error};
-use nutargs::{VERSION, hold_standard_streams, print_refusal, with_words, words_of};
+use nutargs::{
+    VERSION, Word, explains, hold_standard_streams, is_terminal, print_refusal, with_explain,
+    with_words, words_of,
+};
 use nutio::CountedWriter;
 use nutrequest::ClientFault;
 use std::alloc::Global;
@@ -25,16 +28,11 @@ use std::process::ExitCode;
 /// Does what the program's words ask for: prints the help, or does the job at the server. Reports a
 /// fault.
 pub fn main_of<C: Client>(rt: &HostRuntime) -> ExitCode
-    // It ends by the words that the system gave, or by why it gave none.
-    ensures ends { (words : Result (List (List ℕ)) ClientFault) × MatchResult words
-        (λ words. EndsByWords (program_with (name_of C.PROGRAM) C.words) C.asks words
-        (exit_status result))
-        (λ fault. exit_status result ≡ status_of fault) }
-    ensures most { exit_status result ≤ WORD_FAULT }
+    ensures { exit_status result ≤ WORD_FAULT }
 {
     hold_standard_streams(rt);
     match words_of(rt, ClientFault::BadTarget, ClientFault::Memory) {
-        Ok(words) => ExitCode::from(obey_words::<C>(rt, &words)),
+        Ok(words) => ExitCode::from(obey_words::<C>(rt, words)),
         Err(fault) => ExitCode::from(report(rt, C::PROGRAM, &fault, why_no_words(&fault))),
     }
 }
@@ -47,23 +45,31 @@ fn why_no_words(fault: &ClientFault) -> &'static str {
     }
 }
 
-/// Does what these words ask for.
-fn obey_words<C: Client>(rt: &HostRuntime, words: &[String]) -> u8
-    ensures ends { EndsByWords (program_with (name_of C.PROGRAM) C.words) C.asks
-        (map string_bytes words.now) result }
-    ensures most { result ≤ WORD_FAULT }
+/// Does what these words ask for, once the password of a file is among them.
+fn obey_words<C: Client>(rt: &HostRuntime, mut words: Vec<String>) -> u8
+    ensures { result ≤ WORD_FAULT }
 {
-    match matches_of::<C>(rt.alloc(), words) {
+    if takes_password_file(C::words()) {
+        if put_password(rt, C::PROGRAM, &mut words).is_none() {
+            return WORD_FAULT;
+        }
+    }
+    match matches_of::<C>(rt.alloc(), &words) {
         Ok(found) => obey_system::<C>(rt, &found),
         Err(error) => end(rt, C::PROGRAM, &error),
     }
+}
+
+/// Whether `--password-file` is among the words of a program.
+fn takes_password_file(words: &[Word]) -> bool {
+    words.iter().any(|word| word.name == "password-file")
 }
 
 /// Does what was found in the words over the system's network and its standard outputs.
 fn obey_system<C: Client>(rt: &HostRuntime, found: &ArgMatches<'_>) -> u8
     ensures { EndsAsAsked C.asks found.now result }
 {
-    let clues = Clues::new();
+    let clues = Clues::new(explains(rt, found));
     let clues = &clues;
     let stderr = rt.stderr();
     let mut out = CountedWriter::new(Output {
@@ -102,15 +108,17 @@ fn matches_of<'a, C: Client>(alloc: Global, words: &'a [String]) -> Result<ArgMa
         .version(VERSION)
         .after_help(C::EXAMPLE)
         .bin_name(name)?;
-    with_words(alloc, command, C::words())?.try_get_matches_from(words)
+    let command = with_words(alloc, command, C::words())?;
+    with_explain(alloc, command)?.try_get_matches_from(words)
 }
 
-/// Reports a fault of the words on standard error, and why it came. Gives the exit status.
+/// Reports a fault of the words on standard error, and on a terminal why it came. Gives the exit
+/// status.
 fn report(rt: &HostRuntime, program: Program, fault: &ClientFault, why: &str) -> u8
     ensures { result ≡ status_of fault.now }
 {
     let stderr = rt.stderr();
     let mut err = CountedWriter::new(io::writer(&stderr));
-    let why = Why::from(why).unwrap_or_default();
+    let why = Clues::new(is_terminal(rt)).why_of(why);
     ending::report(&mut err, program, fault, &why)
 }

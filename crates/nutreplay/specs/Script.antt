@@ -137,10 +137,14 @@ age_by (Some parts) =
 abbrev pub age_in : List ℕ → Option ℕ
 age_in line = age_by (split_at_space line)
 
--- The greatest age of the server that these lines are for: the first one may say it.
+-- The greatest age that the first of these lines says.
+abbrev pub age_said : List (List ℕ) → Option ℕ
+age_said [] = None
+age_said (line ∷ lines) = age_in line
+
+-- The greatest age of the server that these lines are for.
 abbrev pub age_of_lines : List (List ℕ) → ℕ
-age_of_lines [] = MAX_AGE_DEFAULT
-age_of_lines (line ∷ lines) = unwrap_or (age_in line) MAX_AGE_DEFAULT
+age_of_lines lines = unwrap_or (age_said lines) MAX_AGE_DEFAULT
 
 -- The line of this number, from 1, asks for nothing: it is blank or a comment, or the first line,
 -- which says the greatest age.
@@ -170,6 +174,10 @@ bad_line_from list n (line ∷ lines) =
 -- UPSs, and the number of its first bad line. Lines are numbered from 1.
 unfoldable pub max_age_of : List ℕ → ℕ
 max_age_of script = age_of_lines (lines_of script)
+
+-- The script is a record: its first line says a greatest age, as only the head of a record does.
+unfoldable pub is_record : List ℕ → Bool
+is_record script = is_some (age_said (lines_of script))
 
 unfoldable pub actions_of : List Ups → List ℕ → List ScriptLine
 actions_of list script = actions_from list 1 (lines_of script)

@@ -10,4 +10,4 @@ mod transcript;
 
 pub use recorder::{Recorder, record_head};
 pub use replaying::{ReplayFault, replay};
-pub use script::{add_line, add_line_of_bytes, max_age_of};
+pub use script::{add_line, add_line_of_bytes, is_record, max_age_of};

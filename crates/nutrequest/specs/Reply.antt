@@ -92,10 +92,6 @@ id_in word = option_map id_text (option_and_then read_id word)
 abbrev pub granted_id : List (List ℕ) → Option (List ℕ)
 granted_id words = id_in (only_word (behind (codes "OK" ∷ codes "TRACKING" ∷ []) words))
 
-abbrev pub is_that : ℕ → Option ℕ → Bool
-is_that id (Some read) = read == id
-is_that id None = false
-
 -- A number that isn't 0.
 abbrev pub is_some_number : Option ℕ → Bool
 is_some_number (Some number) = nat_lt 0 number
@@ -119,14 +115,9 @@ progress_in (word ∷ words) =
     else if stands_alone word && is_nothing (Some words) then Some word
     else None
 
--- The same after an id, which has to be this one, in whichever case.
-abbrev pub progress_of : ℕ → List (List ℕ) → Option (List ℕ)
-progress_of id [] = None
-progress_of id (word ∷ words) = if is_that id (read_id word) then progress_in words else None
-
 -- The value in the first line, where it is the one that grants the request: after BEGIN there is
 -- none, after VAR a value, after NUMATTACH a number, after OK of a tracked order its id, after
--- TRACKING how far the order of this id has come; of the others it is OK.
+-- TRACKING and the id as it was sent how far the order has come; of the others it is OK.
 abbrev pub expected_of : Request → List (List ℕ) → Option (List ℕ)
 expected_of (ListOf query) words = if is_frame (codes "BEGIN") query words then Some [] else None
 expected_of (GetVar ups name) words = only_word (behind (codes "VAR" ∷ ups ∷ name ∷ []) words)
@@ -135,7 +126,7 @@ expected_of (GetNumAttach ups) words =
 expected_of (TrackedSetVar ups name value) words = granted_id words
 expected_of (TrackedInstcmd ups name value) words = granted_id words
 expected_of (GetTracking id) words =
-    option_and_then (progress_of id) (behind (codes "TRACKING" ∷ []) words)
+    option_and_then progress_in (behind (codes "TRACKING" ∷ id_text id ∷ []) words)
 expected_of _ words =
     if is_nothing (behind (codes "OK" ∷ []) words) then Some (codes "OK") else None
 

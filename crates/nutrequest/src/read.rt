@@ -6,7 +6,7 @@ ghost use Rattle.nutwords.specs.Reading.{read_name};
 ghost use Rattle.nutwords.specs.Word.{bytes_of};
 ghost use Rattle.nutwords.specs.declared.limits.TheConstants.{LINE_LIMIT};
 ghost use Rattle.nutrequest.specs.Request.{asked_words};
-ghost use Rattle.nutrequest.specs.Reply.{behind, is_nothing, only_word, is_frame, is_error_byte, count_in, id_in, progress_of, progress_in, stands_alone, refusal_of, expected_of, first_of, is_item_name, value_in, item_of, later_of, bytes_in};
+ghost use Rattle.nutrequest.specs.Reply.{behind, is_nothing, only_word, is_frame, is_error_byte, count_in, id_in, progress_in, stands_alone, refusal_of, expected_of, first_of, is_item_name, value_in, item_of, later_of, bytes_in};
 
 use crate::limits::COUNT_LIMIT;
 use crate::{Item, Query, Request};
@@ -120,7 +120,7 @@ fn expected<'a>(request: &Request, words: Words<'a>) -> Option<Excerpt<'a>>
         Request::TrackedSetVar(_, _, _) | Request::TrackedInstcmd(_, _, _) => {
             id(behind(&[b"OK", b"TRACKING"], words))
         }
-        Request::GetTracking(id) => progress_of(*id, behind(&[b"TRACKING"], words)),
+        Request::GetTracking(id) => progress(behind(&[b"TRACKING", &id_text(*id)], words)?),
         _ => is_nothing(behind(&[b"OK"], words)).then_some(Excerpt::Fixed(b"OK")),
     }
 }
@@ -198,19 +198,6 @@ fn id<'a>(words: Option<Words<'a>>) -> Option<Excerpt<'a>>
 {
     let word = only_word(words)?;
     Some(Excerpt::Id(read_id(word.as_bytes())?))
-}
-
-/// How far the order of this id has come, where the words after begin with it.
-fn progress_of<'a>(id: u128, words: Option<Words<'a>>) -> Option<Excerpt<'a>>
-    ensures { option_map bytes_in result ≡ option_and_then (progress_of id) words.entry }
-{
-    let mut words = words?;
-    let first = words.next()?;
-    if read_id(first.as_bytes())? == id {
-        progress(words)
-    } else {
-        None
-    }
 }
 
 /// How far an order has come.

@@ -14,11 +14,13 @@ fn main(rt: HostRuntime) -> ExitCode {
 }
 
 /// Its words.
-static WORDS: [Word; 7] = words! {
+static WORDS: [Word; 8] = words! {
     "l": ShortFlag('l'), Excludes("u", "p", "track", "CMD", "VALUE"),
         "List the commands of the UPS";
     "u": ShortOption('u', "USER"), StandsUnless("l"), "The user's name";
     "p": ShortOption('p', "PASS"), StandsUnless("l"), "The user's password";
+    "password-file": LongOption("FILE"), Excludes("p"),
+        "The file of the user's password";
     "track": LongFlag, Free, "Track the order, and print its id instead of OK";
     "UPS": Operand("UPS"), Required, "The UPS, as ups[@host[:port]]";
     "CMD": Operand("CMD"), StandsUnless("l"), "The command to send";

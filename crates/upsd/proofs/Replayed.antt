@@ -6,13 +6,13 @@ use Rattle.nutcore.specs.Server.{ServerState, new_server}
 use Rattle.nutreplay.specs.Script.{max_age_of}
 use Rattle.upsd.specs.declared.ending.Ending.{Ending}
 use Rattle.upsd.specs.declared.files.Configuration.{Configuration}
-use Rattle.upsd.specs.Reading.{Readings, whole_lines}
+use Rattle.upsd.specs.Reading.{Readings, replayed_lines}
 use Rattle.upsd.specs.Replaying.{EndsOver, EndsReplay}
 
 pub ends_over : {W : Type 0} (contents : W → Option (List ℕ)) (failures : W → ℕ)
     (gives : Readings) (c : Configuration) (script : Bor (List ℕ)) (bytes lines : List ℕ)
     (s : ServerState) (old : W) (result : Result (Unit {0}) Ending) (new : W)
-    → gives script.now (Ok bytes) → lines ≡ whole_lines bytes → s ≡
+    → gives script.now (Ok bytes) → lines ≡ replayed_lines bytes → s ≡
     new_server c.list c.users c.descriptions (max_age_of lines) →
     EndsReplay contents failures s lines script old result new
     → EndsOver contents failures gives c script old result new
@@ -25,7 +25,7 @@ ends_over {W} contents failures gives c script bytes lines s old result new read
 
     by : (result : Result (Unit {0}) Ending) →
         EndsReplay contents failures (new_server c.list c.users c.descriptions
-        (max_age_of (whole_lines bytes))) (whole_lines bytes) script old result new →
+        (max_age_of (replayed_lines bytes))) (replayed_lines bytes) script old result new →
         EndsOver contents failures gives c script old result new
     by (Ok u) h = record { bytes = bytes; read = read; gave = h }
     by (Err ending) h = inr (h.0, h.1, record { bytes = bytes; read = read; gave = h.2 })

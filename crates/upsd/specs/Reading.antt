@@ -2,6 +2,7 @@
 use Rattle.std.specs.Prelude.{◌≡◌, ℕ, ◌+◌, ◌==◌, ⊤, List, [], ◌∷◌, Option, Some, Result, Err}
 use Rattle.std.specs.Prelude.{if◌then◌else◌, take}
 use denote.Ref.{Bor}
+use Rattle.nutreplay.specs.Script.{is_record}
 use Rattle.upsd.specs.declared.ending.Ending.{Ending}
 use Rattle.upsd.specs.declared.ending.Ending.TheVariants as endings
 use Rattle.upsd.specs.declared.reading.ReadFault.{ReadFault}
@@ -39,6 +40,10 @@ lines_end_from end count (b ∷ bytes) =
 abbrev pub lines_end : List ℕ → ℕ
 lines_end bytes = lines_end_from 0 0 bytes
 
--- The whole lines of a text: a last line without LF was cut.
+-- The whole lines of a text, without a last line that has no LF.
 abbrev pub whole_lines : List ℕ → List ℕ
 whole_lines bytes = take (lines_end bytes) bytes
+
+-- What of a script is replayed. In a record a last line without LF was cut, and is left out.
+abbrev pub replayed_lines : List ℕ → List ℕ
+replayed_lines script = if is_record script then whole_lines script else script

@@ -12,7 +12,7 @@ use Rattle.upsd.specs.declared.ending.Ending.TheVariants as endings
 use Rattle.upsd.specs.declared.files.Configuration.{Configuration}
 use Rattle.upsd.specs.declared.files.Files.{Files}
 use Rattle.upsd.specs.Ending.{ending_of_replay}
-use Rattle.upsd.specs.Reading.{Readings, CantBeRead, whole_lines}
+use Rattle.upsd.specs.Reading.{Readings, CantBeRead, replayed_lines}
 use Rattle.upsd.specs.Configuration.{AreMeant, FirstFails}
 
 -- What replaying the script over this server gave, and what the writer took.
@@ -36,7 +36,7 @@ EndsReplay contents failures s lines script old (Err ending) new =
     (fault : ReplayFault) × (ending ≡ ending_of_replay script fault)
     × IsReplay contents failures s lines old (Err fault) new
 
--- The script was read, and its whole lines were replayed over a new server of this configuration,
+-- The script was read, and its lines were replayed, without a cut one, over a new server of this configuration,
 -- of the greatest age that the script says. `gives` is what reading the file of a path gives.
 pub record ReplaysOver {W : Type 0} (contents : W → Option (List ℕ)) (failures : W → ℕ)
     (gives : Readings) (c : Configuration) (script : Bor (List ℕ)) (old : W)
@@ -44,8 +44,8 @@ pub record ReplaysOver {W : Type 0} (contents : W → Option (List ℕ)) (failur
   pub bytes : List ℕ
   pub read : gives script.now (Ok bytes)
   pub gave : IsReplay contents failures
-      (new_server c.list c.users c.descriptions (max_age_of (whole_lines bytes)))
-      (whole_lines bytes) old replayed new
+      (new_server c.list c.users c.descriptions (max_age_of (replayed_lines bytes)))
+      (replayed_lines bytes) old replayed new
 
 -- It was replayed over what the files mean.
 pub record Replays {W : Type 0} (contents : W → Option (List ℕ)) (failures : W → ℕ)

@@ -5,14 +5,14 @@ use Rattle.clap.specs.Words.{App, FailsBy, HasMatchesOf, Shape, Text, fault_of, 
 use Rattle.clap.specs.declared.builder.value_parser.ValueParser.TheVariants.{Unsigned}
 use Rattle.clap.specs.declared.error.Error.{Error}
 use Rattle.clap.specs.declared.parser.matches.ArgMatches.{ArgMatches}
-use Rattle.nutargs.specs.Words.{Free, Required, Row, long_flag, long_option, long_options, operand}
-use Rattle.nutargs.specs.Words.{with_words}
+use Rattle.nutargs.specs.Words.{Free, Required, Row, explained, long_flag, long_option}
+use Rattle.nutargs.specs.Words.{long_options, operand, with_words}
 use Rattle.nutcore.specs.declared.max_age.TheConstants.{MAX_AGE_LEAST, MAX_AGE_MOST}
 use Rattle.upsd.specs.declared.task.TheConstants.{DEFAULT_ADDRESS, IDLE_LEAST, IDLE_MOST, KEPT_PLACES_MOST, RECORD_MIB_MOST}
 
 -- `serve --ups F --users F [--vars F] [--ids F] [--refill-ids] [--listen A:P] .. [--idle S]
--- [--keep-places N] [--maxage N] [--record F] [--record-limit N] [--priorities] [--nut-bytes]`. The
--- address is the default one where none is named.
+-- [--keep-places N] [--maxage N] [--record F] [--record-limit N] [--priorities] [--nut-bytes]
+-- [--explain]`. The address is the default one where none is named.
 abbrev pub serve_words : List Row
 serve_words =
     (long_option (codes "ups"), Required)
@@ -39,9 +39,9 @@ serve_words =
     ∷ (long_flag (codes "priorities"), Free) ∷ (long_flag (codes "nut-bytes"), Free) ∷ []
 
 abbrev pub serve_app : App
-serve_app = with_words (new_app (codes "serve")) serve_words
+serve_app = explained (with_words (new_app (codes "serve")) serve_words)
 
--- `replay [--ups F] [--users F] [--vars F] SCRIPT`.
+-- `replay [--ups F] [--users F] [--vars F] [--explain] SCRIPT`.
 abbrev pub replay_words : List Row
 replay_words =
     (long_option (codes "ups"), Free)
@@ -49,7 +49,7 @@ replay_words =
     ∷ (operand (codes "SCRIPT"), Required) ∷ []
 
 abbrev pub replay_app : App
-replay_app = with_words (new_app (codes "replay")) replay_words
+replay_app = explained (with_words (new_app (codes "replay")) replay_words)
 
 -- One of the two has to be named.
 abbrev pub upsd_shape : Shape

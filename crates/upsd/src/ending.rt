@@ -83,10 +83,17 @@ pub fn status_of(ended: &Result<(), Ending<'_>>) -> u8
     }
 }
 
-/// Prints on standard error why the program isn't done, and on a second line the reason, where the
-/// first one has none.
-pub fn print_ending(rt: &HostRuntime, ending: &Ending<'_>) {
+/// Prints on standard error why the program isn't done. A second line explains it, where that is
+/// asked for and the first one doesn't.
+pub fn print_ending(rt: &HostRuntime, ending: &Ending<'_>, is_explained: bool) {
     let _ = eprintln!(rt; "upsd: {ending}");
+    if is_explained {
+        explain(rt, ending);
+    }
+}
+
+/// Explains on a line why the program isn't done.
+fn explain(rt: &HostRuntime, ending: &Ending<'_>) {
     match *ending {
         Ending::BadArgument(Some(word)) => {
             let _ = eprintln!(rt; "upsd: --listen {word}: not an IP address and a port");
@@ -97,14 +104,14 @@ pub fn print_ending(rt: &HostRuntime, ending: &Ending<'_>) {
         Ending::Refused(_, _, cause) => {
             let _ = eprintln!(rt; "upsd: cause {}: {cause}", cause.number());
         }
-        Ending::Unread(path, error) => explain(rt, &path, error),
-        Ending::Listen(address, error) => explain(rt, &address, error),
+        Ending::Unread(path, error) => print_error(rt, &path, error),
+        Ending::Listen(address, error) => print_error(rt, &address, error),
         _ => {}
     }
 }
 
 /// Prints the system's error of a file or an address, if it has one.
-fn explain<D: fmt::Display>(rt: &HostRuntime, of: &D, error: Option<i32>) {
+fn print_error<D: fmt::Display>(rt: &HostRuntime, of: &D, error: Option<i32>) {
     if let Some(number) = error {
         let error = Said(io::Error::from_raw_os_error(number));
         let _ = eprintln!(rt; "upsd: {of}: {error}");

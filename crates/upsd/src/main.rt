@@ -27,10 +27,13 @@ use crate::serve::serve_files;
 use crate::task::{
     DEFAULT_ADDRESS, IDLE_LEAST, IDLE_MOST, KEPT_PLACES_MOST, RECORD_MIB_MOST, Task, task_of,
 };
-use crate::warnings::warn;
+use crate::warnings::Warner;
 use clap::builder::ValueParser;
 use clap::{ArgMatches, Command, Error};
-use nutargs::{VERSION, Word, hold_standard_streams, print_refusal, with_words, words, words_of};
+use nutargs::{
+    VERSION, Word, explains, hold_standard_streams, is_terminal, print_refusal, with_explain,
+    with_words, words, words_of,
+};
 use nutcore::{MAX_AGE_LEAST, MAX_AGE_MOST};
 use nutio::CountedWriter;
 use std::alloc::{AllocError, Global};
@@ -41,10 +44,14 @@ fn main(rt: HostRuntime) -> ExitCode {
     hold_standard_streams(&rt);
     let words = match words_of(&rt, Ending::BadArgument(None), Ending::Memory) {
         Ok(words) => words,
-        Err(ending) => return finish(&rt, &Err(ending)),
+        Err(ending) => return finish(&rt, &Err(ending), is_terminal(&rt)),
     };
     match matches_of(rt.alloc(), &words) {
-        Ok(matches) => finish(&rt, &run(&rt, &matches)),
+        Ok(matches) => {
+            let found = matches.subcommand();
+            let is_explained = found.is_some_and(|(_, found)| explains(&rt, found));
+            finish(&rt, &run(&rt, &matches), is_explained)
+        }
         Err(error) => end(&rt, &error),
     }
 }
@@ -69,7 +76,7 @@ fn serve_command<'a>(alloc: Global) -> Result<Command<'a>, AllocError>
     let serve = Command::new(alloc, "serve")
         .about("Serves the state of UPSs to clients on the network")
         .after_help("Example: upsd serve --ups upses.conf --users upsd.users --ids /dev/urandom");
-    with_words(alloc, serve, &SERVE_WORDS)
+    with_explain(alloc, with_words(alloc, serve, &SERVE_WORDS)?)
 }
 
 /// The words of `serve`.
@@ -116,7 +123,7 @@ fn replay_command<'a>(alloc: Global) -> Result<Command<'a>, AllocError>
     let replay = Command::new(alloc, "replay")
         .about("Replays a script of events and prints what the server sent")
         .after_help("Example: upsd replay --ups upses.conf --users upsd.users /dev/null");
-    with_words(alloc, replay, &REPLAY_WORDS)
+    with_explain(alloc, with_words(alloc, replay, &REPLAY_WORDS)?)
 }
 
 /// Prints what the parser of the words says: the help, the version, or a fault of the words.
@@ -125,7 +132,7 @@ fn end(rt: &HostRuntime, error: &Error) -> ExitCode
 {
     match print_refusal(rt, error) {
         Some(status) => ExitCode::from(status),
-        None => finish(rt, &Err(Ending::Memory)),
+        None => finish(rt, &Err(Ending::Memory), false),
     }
 }
 
@@ -147,7 +154,11 @@ fn run<'a>(rt: &HostRuntime, matches: &ArgMatches<'a>) -> Result<(), Ending<'a>>
             // This script only has the files judged.
             let judge = |read: &Configuration| {
                 if script == "/dev/null" {
-                    warn(rt, files, &read.list, &read.users);
+                    let warner = Warner {
+                        rt,
+                        priorities: false,
+                    };
+                    warner.warn(files, &read.list, &read.users);
                 }
             };
             replay_files(rt.alloc(), rt, files, script, &mut out, judge)
@@ -157,11 +168,11 @@ fn run<'a>(rt: &HostRuntime, matches: &ArgMatches<'a>) -> Result<(), Ending<'a>>
 }
 
 /// Ends the program, and prints why where it isn't done.
-fn finish(rt: &HostRuntime, ended: &Result<(), Ending<'_>>) -> ExitCode
+fn finish(rt: &HostRuntime, ended: &Result<(), Ending<'_>>, is_explained: bool) -> ExitCode
     ensures { exit_status result ≡ status_of ended.now }
 {
     if let Err(ending) = ended {
-        print_ending(rt, ending);
+        print_ending(rt, ending, is_explained);
     }
     ExitCode::from(status_of(ended))
 }

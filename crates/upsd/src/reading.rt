@@ -2,9 +2,10 @@
 ghost use Rattle.std.specs.Prelude.{◌≡◌, ◌≢◌, ◌≤◌, length, ℕ, List, Result, Ok, Err, IfErr, MatchResult};
 ghost use Rattle.std.specs.IoError.{error_kind, raw_os_error};
 ghost use Rattle.upsd.specs.declared.reading.ReadFault.{ReadFault};
-ghost use Rattle.upsd.specs.Reading.{CantBeRead, anything, ending_of_unread, lines_end, whole_lines};
+ghost use Rattle.upsd.specs.Reading.{CantBeRead, anything, ending_of_unread, lines_end, replayed_lines, whole_lines};
 
 use crate::ending::Ending;
+use nutreplay::is_record;
 use std::fs::{self, File, OpenOptions};
 use std::io::{self, Error, ErrorKind, Read};
 use std::os::unix::fs::OpenOptionsExt;
@@ -82,22 +83,31 @@ pub fn read<'a, R: FileReader>(reader: &R, path: &'a str) -> Result<Vec<u8>, End
     read.map_err(|fault| ending_of_unread(path, fault))
 }
 
-/// The whole lines of a script. A last line without LF was cut, as by a full disk or the end of the
-/// server that wrote it: it is reported, and left out.
+/// The lines of a script that are replayed. The last one may have no LF, except in a record.
 pub fn read_script<'a, R: FileReader>(reader: &R, path: &'a str) -> Result<Vec<u8>, Ending<'a>>
     ensures { MatchResult result
         (λ lines. (bytes : List ℕ) × R.gives reader.now path.entry.now (Ok bytes)
-        × (lines.items ≡ whole_lines bytes))
+        × (lines.items ≡ replayed_lines bytes))
         (CantBeRead (R.gives reader.now) path.entry) }
 {
-    let mut bytes = read(reader, path)?;
-    let end = lines_end(&bytes);
-    if end < bytes.len() {
-        let before = bytes.iter().filter(|b| **b == b'\n').count();
-        reader.report_cut(path, before.saturating_add(1));
-        bytes.truncate(end);
+    let mut script = read(reader, path)?;
+    if is_record(&script) {
+        leave_out_cut(reader, path, &mut script);
     }
-    Ok(bytes)
+    Ok(script)
+}
+
+/// Leaves out the last line of a record if it has no LF. It was cut, as by a full disk or the end of
+/// the server that wrote it. That is reported.
+fn leave_out_cut<R: FileReader>(reader: &R, path: &str, record: &mut Vec<u8>)
+    ensures { record.new.items ≡ whole_lines record.old.items }
+{
+    let end = lines_end(record);
+    if end < record.len() {
+        let before = record.iter().filter(|b| **b == b'\n').count();
+        reader.report_cut(path, before.saturating_add(1));
+        record.truncate(end);
+    }
 }
 
 /// Where the last LF ends.

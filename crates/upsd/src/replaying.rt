@@ -13,7 +13,7 @@ use nutreplay::{max_age_of, replay};
 use std::alloc::Global;
 
 /// `upsd replay`: replays the script of the file over the UPSs, users and descriptions of theirs,
-/// except for a last line that was cut. The greatest age is that of the script.
+/// except for the last line of a record that was cut. The greatest age is that of the script.
 /// The caller is shown what they mean before the script is read.
 ///
 /// # Errors

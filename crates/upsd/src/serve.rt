@@ -13,9 +13,9 @@ use crate::ending::Ending;
 use crate::files::{Files, server_of};
 use crate::reading::{create, open};
 use crate::task::{Addresses, Service};
-use crate::warnings::{warn, warn_of_record};
+use crate::warnings::Warner;
 use nutargs::VERSION;
-use nutcore::{MaxAge, Record, Server};
+use nutcore::{Record, Server};
 use nutio::{CountedWriter, Sink, send};
 use nutjournal::{CROWD, Crowd, Doings, Journal, Leave};
 use nutloop::{DOOR_LIMIT, MioSockets, Rules};
@@ -80,13 +80,7 @@ fn serve<'a>(
         nut_bytes: service.nut_bytes,
     };
     match MioSockets::new(rt, rt.alloc(), addresses.as_slice(), server, ids, rules) {
-        Ok(mut sockets) => match recorder_in(
-            rt,
-            server,
-            files.to_record,
-            service.max_age,
-            service.record_limit,
-        ) {
+        Ok(mut sockets) => match recorder_in(rt, server, files.to_record, service) {
             Ok(mut record) => {
                 let ended = serve_over(rt, server, &mut sockets, &mut record, files, service);
                 let _ = record.pause();
@@ -100,35 +94,35 @@ fn serve<'a>(
 
 /// The new file of this path, if a record is wanted. Where the file can't be made, it warns, and
 /// the server serves without a record.
-fn file_for_record(rt: &HostRuntime, path: Option<&str>) -> Option<File> {
+fn file_for_record(rt: &HostRuntime, path: Option<&str>, priorities: bool) -> Option<File> {
     let path = path?;
     match create(rt, path) {
         Ok(file) => Some(file),
         Err(error) => {
-            warn_of_record(rt, path, &error);
+            let warner = Warner { rt, priorities };
+            warner.warn_of_record(path, &error);
             None
         }
     }
 }
 
-/// A recorder of at most so many MiB in the file of this path, if one is wanted. Its head has the
-/// greatest age, and a comment.
+/// A recorder in the file of this path, if one is wanted. Its head has the greatest age, and a
+/// comment.
 fn recorder_in<'a>(
     rt: &HostRuntime,
     server: &Server,
     path: Option<&str>,
-    max_age: MaxAge,
-    mebibytes: u64,
+    service: Service,
 ) -> Result<Option<Recorder<CountedWriter<File>>>, Ending<'a>>
     ensures { IfErr result (λ ending. ending ≡ Ending.Memory) }
 {
-    let Some(file) = file_for_record(rt, path) else {
+    let Some(file) = file_for_record(rt, path, service.priorities) else {
         return Ok(None);
     };
     let list = server.ups().share().map_err(|_| Ending::Memory)?;
     let comment = comment(rt).unwrap_or(String::new(rt.alloc()));
-    let head = record_head(rt.alloc(), max_age, &comment).ok_or(Ending::Memory)?;
-    let limit = mebibytes.saturating_mul(1 << 20);
+    let head = record_head(rt.alloc(), service.max_age, &comment).ok_or(Ending::Memory)?;
+    let limit = service.record_limit.saturating_mul(1 << 20);
     Ok(Some(Recorder::new(list, head, CountedWriter::new(file), limit)))
 }
 
@@ -157,7 +151,9 @@ fn serve_over<'a, F: Read + Drop, W: Sink + Drop>(
 {
     let journal = Journal::new(rt, service.priorities, service.max_age);
     let mut journal = journal.map_err(|_| Ending::Memory)?;
-    warn(rt, files, server.ups(), server.users());
+    let priorities = service.priorities;
+    let warner = Warner { rt, priorities };
+    warner.warn(files, server.ups(), server.users());
     match print_bound(rt, service.addresses, sockets) {
         Ok(()) => go_round(rt, server, sockets, recorder, &mut journal),
         Err(ending) => Err(ending),

@@ -14,11 +14,13 @@ fn main(rt: HostRuntime) -> ExitCode {
 }
 
 /// Its words.
-static WORDS: [Word; 5] = words! {
+static WORDS: [Word; 6] = words! {
     "s": ShortOption('s', "VAR=VALUE"), Needs("u", "p"), "Set the variable to the value";
     "u": ShortOption('u', "USER"), Needs("s"), "The user's name, for -s";
     "p": ShortOption('p', "PASS"), Needs("s"), "The user's password, for -s";
-    "track": LongFlag, Needs("s"), "Track the order, and print its id instead of OK, for -s";
+    "password-file": LongOption("FILE"), Excludes("p"),
+        "The file of the user's password, for -s";
+    "track": LongFlag, Needs("s"), "Track the order, and print its id, for -s";
     "UPS": Operand("UPS"), Required, "The UPS, as ups[@host[:port]]";
 };
 

@@ -13,7 +13,7 @@ use std::net::TcpStream;
 pub fn print_variables(rt: &HostRuntime, served: &mut Served<'_>) -> Result<bool> {
     let ups = format!(in rt.alloc(); "su@127.0.0.1:{}", served.port()?)?;
     let job = Job::read(&Given::Variables(ups.as_str())).map_err(|_| ClientFault::BadTarget)?;
-    let stream = connect(rt, &job.target, &Clues::new())?;
+    let stream = connect(rt, &job.target, &Clues::new(false))?;
     stream.set_nonblocking(true)?;
     match print(rt, &stream, served, &job) {
         Ok(()) => Ok(true),

@@ -1,6 +1,7 @@
 //! The greatest age of the server that a script is for.
 ghost use Rattle.std.specs.Prelude.{◌≡◌};
-ghost use Rattle.nutreplay.specs.Script.{age_in, asks_nothing, max_age_of};
+ghost use Rattle.nutwords.specs.Text.{lines_of};
+ghost use Rattle.nutreplay.specs.Script.{age_in, age_said, asks_nothing, is_record, max_age_of};
 
 use super::action::split_at_space;
 use nutcore::{MAX_AGE_DEFAULT, MAX_AGE_MOST, MaxAge};
@@ -12,13 +13,27 @@ use nutwords::{TextLines, is_silent, read_natural};
 pub fn max_age_of(script: &[u8]) -> MaxAge
     ensures { result ≡ max_age_of script.now }
 {
-    let said = match TextLines::of(script).next() {
-        Some(line) => age_in(line),
-        None => None,
-    };
-    match said {
+    match age_said(script) {
         Some(max_age) => max_age,
         None => MaxAge::read(MAX_AGE_DEFAULT).unwrap(),
+    }
+}
+
+/// Whether the script is a record: only its head says a greatest age.
+#[tactic(auto, unfolding(crate::specs::Script::is_record))]
+pub fn is_record(script: &[u8]) -> bool
+    ensures { result ≡ is_record script.now }
+{
+    age_said(script).is_some()
+}
+
+/// The greatest age that the first line says.
+fn age_said(script: &[u8]) -> Option<MaxAge>
+    ensures { result ≡ age_said (lines_of script.now) }
+{
+    match TextLines::of(script).next() {
+        Some(line) => age_in(line),
+        None => None,
     }
 }
 

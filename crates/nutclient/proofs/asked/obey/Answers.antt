@@ -10,14 +10,16 @@ pub returns-in-Err-clause-gives : goal.returns-in-Err-clause-gives
 returns-in-Err-clause-gives g c =
     let none : job_of c.given.result ≡ None =
     sym c.read.ensures ∙ ap (λ r. option_map parts_of (result_ok r)) c.in-Err.is in
-    let why = c.unwrap_or_default-why.result.bytes in
+    let why = c.why_of-why.result.bytes in
     let told = subst (λ program. Reports g.E.Sink.contents g.E.Sink.failures program BadTarget why
     c.args.err.now c.report.result c.report.new.err) c.PROGRAM-program.ensures c.report.ensures in
+    let said = subst (λ why. Reports g.E.Sink.contents g.E.Sink.failures g.C.Client.PROGRAM BadTarget why
+    c.args.err.now c.report.result c.report.new.err) c.why_of-why.ensures told in
     let obeys = subst (λ job. Obeys g.N.Reader.Source.remaining g.N.Reader.Source.failures
     g.N.Writer.Sink.contents g.N.Writer.Sink.failures g.O.Sink.contents g.O.Sink.failures
     g.E.Sink.contents g.E.Sink.failures (g.N.Network.connects c.args.network.now)
-    g.C.Client.PROGRAM job c.args.is_terminal c.args.out.now c.args.err.now c.report.result
-    c.args.out.now c.report.new.err) (sym none) (refl, (why, told)) in
+    c.args.clues.now.is_explained g.C.Client.PROGRAM job c.args.is_terminal c.args.out.now c.args.err.now c.report.result
+    c.args.out.now c.report.new.err) (sym none) (refl, (why, said)) in
     (c.given.result, c.given.ensures, obeys)
 
 pub returns-in-Err-connect-clause-gives : goal.returns-in-Err-connect-clause-gives
@@ -29,10 +31,12 @@ returns-in-Err-connect-clause-gives g c =
     let report = c.report-in-Err-connect in
     let told = subst (λ program. Reports g.E.Sink.contents g.E.Sink.failures program fault why
     c.args.err.now report.result report.new.err) c.PROGRAM-program.ensures report.ensures in
+    let said = subst (λ why. Reports g.E.Sink.contents g.E.Sink.failures g.C.Client.PROGRAM fault why
+    c.args.err.now report.result report.new.err) c.why.ensures told in
     let obeys = subst (λ job. Obeys g.N.Reader.Source.remaining g.N.Reader.Source.failures
     g.N.Writer.Sink.contents g.N.Writer.Sink.failures g.O.Sink.contents g.O.Sink.failures
     g.E.Sink.contents g.E.Sink.failures (g.N.Network.connects c.args.network.now)
-    g.C.Client.PROGRAM job c.args.is_terminal c.args.out.now c.args.err.now report.result
+    c.args.clues.now.is_explained g.C.Client.PROGRAM job c.args.is_terminal c.args.out.now c.args.err.now report.result
     c.args.out.now report.new.err) (sym some)
-    (Err fault, c.in-Err-connect.ensures.gives, (refl, (why, told))) in
+    (Err fault, c.in-Err-connect.ensures.gives, (refl, (why, said))) in
     (c.given.result, c.given.ensures, obeys)

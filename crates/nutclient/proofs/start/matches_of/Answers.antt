@@ -1,7 +1,7 @@
 use Rattle.std.proofs.Common.{◌≡◌, ◌∙◌, ap, ap₂, [], subst, map, string_bytes, true, IfOk}
 use Rattle.clap.specs.Simple.{app_of_fields, on_top}
 use Rattle.clap.specs.Words.{App, HasMatchesOf, app_of}
-use Rattle.nutargs.specs.Words.{program_with, with_words}
+use Rattle.nutargs.specs.Words.{explained, program_of, program_with, with_words}
 use Rattle.nutclient.specs.Ending.{name_of}
 use Rattle.nutclient.proofs.start.matches_of.Goals as goal
 
@@ -10,12 +10,13 @@ versioned = on_top (λ s. record s { has_version = true })
 
 pub returns : goal.returns
 returns g c =
-    let name = ap (λ text. program_with text []) (c.name-name.ensures.value ∙ ap name_of c.PROGRAM.ensures) in
+    let name = ap program_of (c.name-name.ensures.value ∙ ap name_of c.PROGRAM.ensures) in
     let begun = ap app_of_fields c.about.ensures ∙ c.new.ensures.app in
     let described = ap app_of_fields c.after_help.ensures ∙ ap app_of_fields c.version.ensures ∙
     ap versioned begun in
-    let named : app_of c.in_ok-command.command ≡ program_with (name_of g.C.Client.PROGRAM) [] =
+    let named : app_of c.in_ok-command.command ≡ program_of (name_of g.C.Client.PROGRAM) =
     ap app_of_fields c.in_ok-command.ensures.0 ∙ described ∙ name in
-    let taken = c.in_ok-with_words.ensures.app ∙ ap₂ with_words named c.words.ensures in
+    let words = c.in_ok-command-2.ensures.app ∙ ap₂ with_words named c.words.ensures in
+    let taken = c.in_ok-with_explain.ensures ∙ ap explained words in
     subst (λ (a : App). IfOk c.try_get_matches_from.result
     (HasMatchesOf a (map string_bytes c.args.words.now))) taken c.try_get_matches_from.ensures.matches
