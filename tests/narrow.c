@@ -13,7 +13,7 @@
  * ENDS_LATE: no event reports that a peer sends no more, as if it had ended after the events were asked for.
  * WRITABLE: how often poll finds that a socket takes bytes. A connection that begins is found so once.
  * LATER: by how many seconds the clock goes forward when events are waited for first.
- * CLOCK: a file that says by how many seconds the clock is forward.
+ * CLOCK: a file that says by how many milliseconds the clock is forward.
  * ELSEWHERE: who is accepted from 127.7.0.0/16 comes from 10.7.0.0/16.
  * BUFFER: how many bytes the system keeps for an accepted connection.
  */
@@ -127,8 +127,8 @@ int epoll_ctl(int set, int what, int file, struct epoll_event *event)
 
 static time_t later;
 
-/* By how many seconds the file that CLOCK names says that the clock is forward. */
-static time_t forward(void)
+/* By how many milliseconds the file that CLOCK names says that the clock is forward. */
+static long forward(void)
 {
     const char *path = getenv("CLOCK");
     char text[32] = "";
@@ -138,14 +138,17 @@ static time_t forward(void)
             text[0] = 0;
         close(file);
     }
-    return (time_t)strtol(text, NULL, 10);
+    return strtol(text, NULL, 10);
 }
 
 int clock_gettime(clockid_t clock, struct timespec *now)
 {
     int answer = (int)syscall(SYS_clock_gettime, clock, now);
-    if (clock == CLOCK_MONOTONIC)
-        now->tv_sec += later + forward();
+    if (clock == CLOCK_MONOTONIC) {
+        long thousandths = now->tv_nsec / 1000000 + forward();
+        now->tv_sec += later + thousandths / 1000;
+        now->tv_nsec = thousandths % 1000 * 1000000 + now->tv_nsec % 1000000;
+    }
     return answer;
 }
 

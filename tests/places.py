@@ -7,6 +7,7 @@ import os
 import socket
 import subprocess
 import sys
+import time
 
 import serving
 from replaying import Bench, built
@@ -23,22 +24,27 @@ ASK, ANSWER = b"GET UPSDESC su\n", b'UPSDESC su "Rack 1"\n'
 HERE, ELSEWHERE = "127.0.0.1", "127.7.0.{}"
 MANY = b'SETINFO ups.status "OL"\n' + b"".join(b'SETINFO v%04d "%s"\n' % (i, b"x" * 200) for i in range(1000))
 COMMAND = b'SETINFO ups.status "OL"\nADDCMD shutdown.stop\nADDCMD beeper.mute\n'
+START = [0.0]  # of the server
 BENCH.file("users", USERS)
 served = functools.partial(serving.served, FOLDER, UPSD)
 
 
 def go_to(second):
-    """The clock is at so many seconds after the start of the case, and some."""
+    """The clock of the server is in this second after its start, at the second's begin."""
+    elapsed = time.monotonic() - START[0] if second else 0
     with open(CLOCK + ".new", "w", encoding="utf-8") as out:
-        out.write(str(second))
+        out.write(str(max(0, int((second - elapsed) * 1000) + 300)))
     os.replace(CLOCK + ".new", CLOCK)
 
 
+@contextlib.contextmanager
 def begun(*words, reported=serving.TWO, **more):
     """A server with a clock of its own, its driver, and a good client of this machine."""
     go_to(0)
     env = {**os.environ, "LD_PRELOAD": NARROW, "CLOCK": CLOCK, "ELSEWHERE": "1", **more}
-    return served(reported, *words, env=env)
+    with served(reported, *words, env=env) as all_of_it:
+        START[0] = time.monotonic()
+        yield all_of_it
 
 
 def is_served(client):
@@ -110,12 +116,12 @@ def three_quarters_are_told_with_the_address_that_has_most():
         assert comes(lambda: server.journal().count("places are taken") == 2), server.journal()
 
 
-def who_asks_each_59_seconds_stays():
+def who_asks_each_58_seconds_stays():
     """64 clients, with an idle limit of a minute, for ten minutes."""
     with begun("--idle", "60") as (server, driver, good):
         clients = [good, *crowd(server, 63)]
         for minute in range(1, 11):
-            go_to(59 * minute)
+            go_to(58 * minute)
             driver.send(b"PONG\n")
             assert all(is_served(client) for client in clients), minute
         assert "silent" not in server.journal()
