@@ -151,14 +151,14 @@ def a_login_of_a_machine_that_vanished_is_gone():
 
 def it_wakes_to_end_who_is_silent():
     """Though nothing else is due, and nobody asks: one second after it may be."""
-    with begun("--idle", "30", "--maxage", "86400") as (server, _, good):
+    with begun("--idle", "30", "--maxage", "86400") as (server, driver, good):
         go_to(28)
-        assert is_served(good)  # the server waits for the 58th second from now on
+        assert is_served(good)
+        go_to(55)
+        driver.send(b"PONG\n")  # the server waits for the 58th second from now on
         waits = server.wakeups()
-        go_to(56)
-        good.wire.settimeout(40)
         assert good.up_to_end() == b""
-        assert server.wakeups() - waits < 40, server.wakeups() - waits
+        assert server.wakeups() - waits < 12, server.wakeups() - waits
 
 
 def a_reader_that_takes_some_each_50_seconds_gets_all():

@@ -353,7 +353,9 @@ impl<'a, R: Net + Clock, F: Read + Drop> MioSockets<'a, R, F> {
         }
     }
 
-    /// Asks the system what is ready, and waits for it up to this second.
+    /// Asks the system what is ready, and waits for it up to this second. It asks again where the
+    /// wait reports nothing: it was over, or a signal cut it short while somebody asked, as one
+    /// does that lets a stopped server go on.
     fn wait(&mut self, server: &Server, soon: bool, until: u64) -> io::Result<()>
         requires awake { until ≤ wake_second server.now.state soon self.old }
         ensures { self.new
@@ -364,6 +366,9 @@ impl<'a, R: Net + Clock, F: Read + Drop> MioSockets<'a, R, F> {
             _ => up_to(until, self.start.elapsed(self.rt)?),
         };
         self.poll.poll(&mut self.events, Some(most))?;
+        if self.events.is_empty() && !most.is_zero() {
+            self.poll.poll(&mut self.events, Some(Duration::ZERO))?;
+        }
         Ok(())
     }
 
