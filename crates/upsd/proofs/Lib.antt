@@ -1,2 +1,3 @@
 mod Commands
 mod Replayed
+pub mod Addresses

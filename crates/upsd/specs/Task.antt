@@ -1,6 +1,6 @@
 -- What the program is to do, by the words that were found after a subcommand.
 use Rattle.std.specs.Prelude.{◌≡◌, ◌⊎◌, ◌<◌, ◌≤◌, ◌^◌, ℕ, List, [], Option, Some, None, codes}
-use Rattle.std.specs.Prelude.{length, slice_get}
+use Rattle.std.specs.Prelude.{length, slice_get, unwrap_or}
 use Rattle.std.specs.Option.{option_map, option_map_or}
 use Rattle.std.specs.Str.Parse.{IsNumeral, digits_value, without_leading_plus}
 use Rattle.std.specs.Net.Grammar.{IsSocketText}
@@ -31,14 +31,18 @@ pub record AreNamedIn (found : ArgMatches) (files : Files) : Type 0 where
 -- The addresses are written after --listen, each in its place, and are as many as may be listened
 -- at.
 abbrev pub texts_in : ArgMatches → Text → List Text
-texts_in found name = option_map_or raw_values (matched_of (found_of found) name) []
+texts_in found name = unwrap_or (option_map raw_values (matched_of (found_of found) name)) []
+
+abbrev pub text_at : List Text → ℕ → Text
+text_at texts place = unwrap_or (slice_get texts place) []
 
 pub record AreAddresses (texts : List Text) (addresses : Addresses) : Type 0 where
   pub count : length texts ≡ addresses.count
   pub some : 0 < addresses.count
   pub most : addresses.count ≤ DOOR_LIMIT
-  pub each : (place : ℕ) (text : Text) (address : SocketAddr) → slice_get texts place ≡ Some text
-      → slice_get addresses.list place ≡ Some address → IsSocketText text address
+  pub each : (place : ℕ) → place < addresses.count
+      → (address : SocketAddr) × (slice_get addresses.list place ≡ Some address)
+      × IsSocketText (text_at texts place) address
 
 abbrev pub AreAddressesIn : ArgMatches → Addresses → Type 0
 AreAddressesIn found addresses = AreAddresses (texts_in found (codes "listen")) addresses

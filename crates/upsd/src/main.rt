@@ -148,7 +148,7 @@ fn run<'a>(rt: &HostRuntime, matches: &ArgMatches<'a>) -> Result<(), Ending<'a>>
         return Err(Ending::BadArgument(None));
     };
     match task_of(name, found) {
-        Some(Task::Serve(files, service)) => serve_files(rt, files, service),
+        Some(Task::Serve(files, service)) => serve_files(rt, files, &service),
         Some(Task::Replay(files, script)) => {
             let mut out = CountedWriter::new(io::writer(rt));
             // This script only has the files judged.

@@ -18,8 +18,9 @@ use nutargs::VERSION;
 use nutcore::{Record, Server};
 use nutio::{CountedWriter, Sink, send};
 use nutjournal::{CROWD, Crowd, Doings, Journal, Leave};
-use nutloop::{DOOR_LIMIT, MioSockets, Rules};
+use nutloop::{CannotListen, DOOR_LIMIT, MioSockets, Rules};
 use nutreplay::{Recorder, record_head};
+use nutwords::Address;
 use std::alloc::Global;
 use std::fs::File;
 use std::io::{Error, ErrorKind, Read};
@@ -36,12 +37,12 @@ use std::{env, io};
 pub fn serve_files<'a>(
     rt: &HostRuntime,
     files: Files<'a>,
-    service: Service,
+    service: &Service,
 ) -> Result<(), Ending<'a>>
     ensures { IfErr result (λ ending.
         FirstFails anything files.entry ending
         ⊎ (CantBeOpened files.entry.ids ending
-        ⊎ IsEndOfServing service.addresses ending)) }
+        ⊎ IsEndOfServing service.now.addresses ending)) }
 {
     let mut server = server_of(rt.alloc(), rt, files, service.max_age)?;
     serve(rt, &mut server, files, service)
@@ -66,20 +67,13 @@ fn serve<'a>(
     rt: &HostRuntime,
     server: &mut Server,
     files: Files<'a>,
-    service: Service,
+    service: &Service,
 ) -> Result<(), Ending<'a>>
     ensures { IfErr result (λ ending.
-        CantBeOpened files.entry.ids ending ⊎ IsEndOfServing service.addresses ending) }
+        CantBeOpened files.entry.ids ending ⊎ IsEndOfServing service.now.addresses ending) }
 {
     let ids = ids_in(rt, files.ids)?;
-    let addresses = service.addresses;
-    let rules = Rules {
-        idle: service.idle,
-        kept_places: service.kept_places as usize,
-        refills_ids: service.refills_ids,
-        nut_bytes: service.nut_bytes,
-    };
-    match MioSockets::new(rt, rt.alloc(), addresses.as_slice(), server, ids, rules) {
+    match sockets_of(rt, server, ids, service) {
         Ok(mut sockets) => match recorder_in(rt, server, files.to_record, service) {
             Ok(mut record) => {
                 let ended = serve_over(rt, server, &mut sockets, &mut record, files, service);
@@ -88,7 +82,32 @@ fn serve<'a>(
             }
             Err(ending) => Err(ending),
         },
-        Err(fault) => Err(ending_of_listening(addresses, fault.address, &fault.error)),
+        Err(ending) => Err(ending),
+    }
+}
+
+/// The sockets of a server that listens, and is connected to its drivers.
+fn sockets_of<'a, 'r>(
+    rt: &'r HostRuntime,
+    server: &Server,
+    ids: Option<File>,
+    service: &Service,
+) -> Result<MioSockets<'r, HostRuntime, File>, Ending<'a>>
+    ensures { IfErr result (IsEndOfServing service.now.addresses) }
+{
+    let rules = Rules {
+        idle: service.idle,
+        kept_places: service.kept_places as usize,
+        refills_ids: service.refills_ids,
+        nut_bytes: service.nut_bytes,
+    };
+    let addresses = &service.addresses;
+    match MioSockets::new(rt, rt.alloc(), addresses.as_slice(), server, ids, rules) {
+        Ok(sockets) => Ok(sockets),
+        Err(fault) => {
+            let CannotListen { address, error } = fault;
+            Err(ending_of_listening(addresses, address, &error))
+        }
     }
 }
 
@@ -112,7 +131,7 @@ fn recorder_in<'a>(
     rt: &HostRuntime,
     server: &Server,
     path: Option<&str>,
-    service: Service,
+    service: &Service,
 ) -> Result<Option<Recorder<CountedWriter<File>>>, Ending<'a>>
     ensures { IfErr result (λ ending. ending ≡ Ending.Memory) }
 {
@@ -145,16 +164,16 @@ fn serve_over<'a, F: Read + Drop, W: Sink + Drop>(
     sockets: &mut MioSockets<'_, HostRuntime, F>,
     recorder: &mut Option<Recorder<W>>,
     files: Files<'a>,
-    service: Service,
+    service: &Service,
 ) -> Result<(), Ending<'a>>
-    ensures { IfErr result (IsEndOfServing service.addresses) }
+    ensures { IfErr result (IsEndOfServing service.now.addresses) }
 {
     let journal = Journal::new(rt, service.priorities, service.max_age);
     let mut journal = journal.map_err(|_| Ending::Memory)?;
     let priorities = service.priorities;
     let warner = Warner { rt, priorities };
     warner.warn(files, server.ups(), server.users());
-    match print_bound(rt, service.addresses, sockets) {
+    match print_bound(rt, &service.addresses, sockets) {
         Ok(()) => go_round(rt, server, sockets, recorder, &mut journal),
         Err(ending) => Err(ending),
     }
@@ -163,10 +182,10 @@ fn serve_over<'a, F: Read + Drop, W: Sink + Drop>(
 /// Prints the addresses at which clients are listened for, in their order.
 fn print_bound<'a, F: Read + Drop>(
     rt: &HostRuntime,
-    addresses: Addresses,
+    addresses: &Addresses,
     sockets: &MioSockets<'_, HostRuntime, F>,
 ) -> Result<(), Ending<'a>>
-    ensures { IfErr result (IsEndOfServing addresses) }
+    ensures { IfErr result (IsEndOfServing addresses.now) }
 {
     let mut out = CountedWriter::new(io::writer(rt));
     for place in 0..DOOR_LIMIT {
@@ -218,22 +237,27 @@ fn doings_of<'s, F: Read + Drop>(
     sockets: &'s MioSockets<'_, HostRuntime, F>,
     is_record_cut: bool,
 ) -> Doings<'s> {
-    let left = sockets.left().map(|left| {
-        let leave = match left.leave {
-            nutloop::Leave::Ended => Leave::Ended,
-            nutloop::Leave::Failed => Leave::Failed,
-            nutloop::Leave::Silent(seconds) => Leave::Silent(seconds),
-            nutloop::Leave::GaveWay(seconds) => {
-                Leave::GaveWay(sockets.awaiting().unwrap_or(&left.address), seconds)
-            }
-        };
-        (&left.address, leave)
-    });
+    let mut left = None;
+    if let Some(client) = sockets.left() {
+        let to = sockets.awaiting().unwrap_or(&client.address);
+        left = Some((&client.address, leave_of(client.leave, to)));
+    }
     Doings {
         left,
         sent_away: sockets.sent_away(),
         counts: sockets.counts(),
         is_record_cut,
+    }
+}
+
+/// Why a client left, as the journal says it. One that gave way did so to the newcomer of this
+/// address.
+fn leave_of(leave: nutloop::Leave, to: &Address) -> Leave<'_> {
+    match leave {
+        nutloop::Leave::Ended => Leave::Ended,
+        nutloop::Leave::Failed => Leave::Failed,
+        nutloop::Leave::Silent(seconds) => Leave::Silent(seconds),
+        nutloop::Leave::GaveWay(seconds) => Leave::GaveWay(to, seconds),
     }
 }
 
@@ -264,15 +288,15 @@ fn print_address<'a, W: Sink>(
 
 /// How the program ends where it can't listen, at this address or at the first one.
 fn ending_of_listening<'a>(
-    addresses: Addresses,
+    addresses: &Addresses,
     address: Option<SocketAddr>,
     error: &Error,
 ) -> Ending<'a>
-    requires { IfSome address (IsOneOf addresses) }
+    requires { IfSome address (IsOneOf addresses.now) }
     ensures memory { error_kind error.now ≡ ErrorKind.OutOfMemory → result ≡ Ending.Memory }
     ensures failed { IfSome address (λ a. error_kind error.now ≢ ErrorKind.OutOfMemory
         → result ≡ Ending.Listen a (raw_os_error error.now)) }
-    ensures ends { IsEndOfServing addresses result }
+    ensures ends { IsEndOfServing addresses.now result }
 {
     match error.kind() {
         ErrorKind::OutOfMemory => Ending::Memory,

@@ -1,9 +1,11 @@
 //! What the program is to do, by the words of its subcommand.
-ghost use Rattle.std.specs.Prelude.{◌≡◌, ◌≢◌, MatchOption, Option, Some, ℕ, None, codes, slice_get, take};
+ghost use Rattle.std.specs.Prelude.{◌≡◌, ◌≢◌, MatchOption, Option, Some, ℕ, None, codes, length, map, slice_get, take, ◌<◌};
+ghost use Rattle.std.specs.Net.Grammar.{IsSocketText};
+ghost use Rattle.std.specs.declared.net.socket_addr.SocketAddr.{SocketAddr};
 ghost use Rattle.clap.specs.Words.{found_of, first_value};
 ghost use Rattle.upsd.specs.declared.task.Addresses.{Addresses};
 ghost use Rattle.upsd.specs.declared.task.Service.{Service};
-ghost use Rattle.upsd.specs.Task.{AreAddressesIn, AreKeptPlacesIn, IsIdleIn, IsMaxAgeIn, IsRecordLimitIn, IsServiceIn, IsServing, IsReplaying};
+ghost use Rattle.upsd.specs.Task.{AreAddresses, AreAddressesIn, AreKeptPlacesIn, IsIdleIn, IsMaxAgeIn, IsRecordLimitIn, IsServiceIn, IsServing, IsReplaying, text_at};
 
 use crate::files::{Files, files_named};
 use clap::ArgMatches;
@@ -119,17 +121,35 @@ fn addresses_named(found: &ArgMatches<'_>) -> Option<Addresses>
         ((addresses : Addresses) → ¬ (AreAddressesIn found.now addresses))
         (AreAddressesIn found.now) }
 {
-    let texts = found.get_strs("listen")?;
-    let first = texts.first()?.parse::<SocketAddr>().ok()?;
+    addresses_of(found.get_strs("listen")?)
+}
+
+/// The addresses that these texts write.
+fn addresses_of(texts: &[&str]) -> Option<Addresses>
+    ensures { MatchOption result
+        ((addresses : Addresses) → ¬ (AreAddresses (map (λ v. v.now) texts.now) addresses))
+        (AreAddresses (map (λ v. v.now) texts.now)) }
+{
     let count = texts.len();
-    if count > DOOR_LIMIT {
+    if count == 0 || count > DOOR_LIMIT {
         return None;
     }
+    let first = address_at(texts, 0)?;
     let mut list = [first; DOOR_LIMIT];
     for place in 0..count {
-        list[place] = texts[place].parse::<SocketAddr>().ok()?;
+        list[place] = address_at(texts, place)?;
     }
     Some(Addresses { list, count })
+}
+
+/// The address that the text of this place writes.
+fn address_at(texts: &[&str], place: usize) -> Option<SocketAddr>
+    requires { place < length texts.now }
+    ensures { MatchOption result
+        ((address : SocketAddr) → ¬ (IsSocketText (text_at (map (λ v. v.now) texts.now) place) address))
+        (IsSocketText (text_at (map (λ v. v.now) texts.now) place)) }
+{
+    texts[place].parse::<SocketAddr>().ok()
 }
 
 /// The seconds after `--idle`, none where it isn't there.
