@@ -48,6 +48,12 @@ try:
 test-try:
 	@python3 tools/try.py $(PROGRAMS) demodriver && bash tools/test_try
 
+# Measures anew what docs/COSTS.md has, on an idle machine, and writes it there.
+costs:
+	python3 tools/build.py upsd
+	cd crates/netbench && rt run >/dev/null
+	python3 tools/costs.py --write
+
 # Every proof from nothing, the edits that must fail, the tests, and the scripts of tests/.
 test:
 	@python3 tools/kit.py && bash .ci/run
@@ -69,6 +75,7 @@ install:
 	for program in $(CLIENTS); do install crates/$$program/out/$$program$(BUILT) $(ROOT)/bin/$$program || exit 1; done
 	install -m 644 man/*.5 $(ROOT)/share/man/man5
 	install -m 644 man/*.8 $(ROOT)/share/man/man8
+	sed -i '/^\.TH/s/ Voqarchay / "Voqarchay $(VERSION)" /' $(addprefix $(ROOT)/, $(PAGES))
 	install -m 644 $(TEXTS) $(ROOT)/$(DOC)
 	sed -Ei '$(UNLINKED)' $(ROOT)/$(DOC)/*.md
 	for file in $(EXAMPLES) $(UNITS); do \
@@ -99,4 +106,4 @@ release:
 	$(MAKE) all arm64
 	bash tools/release $(VERSION)
 
-.PHONY: all arm64 clean demo try test-try test test-arm64 install uninstall deb release
+.PHONY: all arm64 clean costs demo try test-try test test-arm64 install uninstall deb release

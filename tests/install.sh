@@ -23,6 +23,7 @@ grep -q "^upsd isn't built: make, make arm64$" "$folder/said" && [[ ! -e $folder
 in_root install
 files >"$folder/first"
 [[ $(wc -l <"$folder/first") -gt 24 ]] && ok
+[[ $(head -qn 1 "$usr"/share/man/man[58]/* | grep -cE "\"Voqarchay $("$usr/bin/upsc" --version | cut -d ' ' -f 2)\" \"UPS server\"$") == $(find man -type f | wc -l) ]] && ok
 grep -q 'ExecStart=/usr/sbin/upsd serve' "$unit" && ok
 "$usr/bin/upsc" --help >"$folder/help" && cmp -s "$folder/help" crates/upsc/stdout && ok
 [[ -f $folder/root$(sed -n 's/^ExecStart=\([^ ]*\) .*/\1/p' "$usr/lib/systemd/system/demodriver@.service") ]] && ok
@@ -87,5 +88,5 @@ grep -q "usr/bin/upsc isn't of this package" "$folder/said" && ok
 [[ $(files) == "$usr/bin/upsc" ]] && ok
 in_root uninstall
 [[ $(cat "$usr/bin/upsc") == NUT ]] && ok
-echo "install: $checks of 23 checks"
-[[ $checks == 23 ]]
+echo "install: $checks of 24 checks"
+[[ $checks == 24 ]]

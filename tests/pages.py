@@ -97,7 +97,7 @@ ROOTS = "crates tests docs tools man examples arm64".split()
 IN_CRATES = "src specs proofs args stdout data".split()
 # Of std, of the system and of the kit.
 NOT_OURS = set("""epoll_wait make_contiguous docs/ANSWERS.md
-    --follow-tags --ignore-missing --since --test --only --allow-holes --start""".split())
+    --follow-tags --ignore-missing --since --only --allow-holes --start""".split())
 OPTION = re.compile(r"(?<![\w-])--[a-z][a-z-]*")
 MESSAGE = re.compile(r"(?:upsd|upsc|upsrw|upscmd|from_nut|started|metrics|demodriver): (.+)")
 
@@ -195,7 +195,7 @@ def missing(page, text, names):
 ALL_WORDS, TELLING, CELL = 21_000, 0, 60
 MADE = "docs/LAWS.md"
 SIZES = {"README.md": 800, "docs/COSTS.md": 1050, "docs/ARCHITECTURE.md": 3700, "docs/CONTRIBUTING.md": 2700, "docs/PROVED.md": 1750,
-         "docs/DECISIONS.md": 1150, "docs/INTEROP.md": 1450, "docs/PROTOCOL.md": 3150, "docs/OPERATING.md": 3200, MADE: 5000}  # fmt: skip
+         "docs/DECISIONS.md": 1150, "docs/INTEROP.md": 1450, "docs/PROTOCOL.md": 3150, "docs/OPERATING.md": 3300, MADE: 5000}  # fmt: skip
 TELLS = re.compile(r"\b(?:tells?|told)\b", re.I)
 
 
