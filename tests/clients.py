@@ -12,11 +12,10 @@ import socket
 import struct
 import subprocess
 import time
-import tty
 from typing import NamedTuple
 
 import serving
-from replaying import HERE, Bench, built, plain, sections, text_of
+from replaying import HERE, Bench, built, plain, sections, terminal_ends, text_of
 
 PROGRAMS = {os.path.basename(program): program for program in built("upsc", "upsrw", "upscmd")}
 BENCH = Bench("clients", PROGRAMS["upsc"])
@@ -108,7 +107,8 @@ def all_of(wire):
 def start(words, narrow, closed=(), stdout=subprocess.PIPE, stderr=subprocess.PIPE, more=("--explain",)):
     program, *rest = words
     # The pipe has room for all that is printed, which is read last.
-    return subprocess.Popen(serving.closing(closed, [PROGRAMS[program], *more, *rest]), env={**os.environ, "LD_PRELOAD": NARROW, "LED": LED, **narrow}, stdin=subprocess.DEVNULL, stdout=stdout, stderr=stderr, pipesize=1 << 20)
+    return subprocess.Popen(serving.closing(closed, [PROGRAMS[program], *more, *rest]), env={**os.environ, "LD_PRELOAD": NARROW, "LED": LED, **narrow},
+                            stdin=subprocess.DEVNULL, stdout=stdout, stderr=stderr, pipesize=1 << 20)  # fmt: skip
 
 
 def reported(words, *lines):
@@ -202,13 +202,11 @@ def passwords():
 def no_passwords(words):
     """A file that can't be read is named, and one that isn't a password is a bad argument. No server is looked for."""
     rule = next(rule for rule in UNLAWFUL if rule.startswith("PASS"))
-    file = BENCH.file("password", b"")
     BENCH.file("led", b"")
-    absent, folder, binary = f"{file}-absent", BENCH.folder.name, BENCH.file("binary", b"\xff\n")
-    unread = [(absent, "No such file or directory"), (folder, "Is a directory"), (binary, "stream did not contain valid UTF-8")]
+    unread = [(f"{LED}-absent", "No such file or directory"), (BENCH.folder.name, "Is a directory"),
+              (BENCH.file("binary", b"\xff\n"), "stream did not contain valid UTF-8")]  # fmt: skip
     for content in b"", b"\n", b"two\nlines\n", b"with CR\r\n", b"w" * 257, b"w" * 1000:
-        BENCH.file("password", content)
-        check_end(words, start((*words, "--password-file", file), {"LEAD_TO": "1"}), 2, ARGUMENT, rule)
+        check_end(words, start((*words, "--password-file", BENCH.file("password", content)), {"LEAD_TO": "1"}), 2, ARGUMENT, rule)
     for path, why in unread:
         check_end(words, start((*words, "--password-file", path), {"LEAD_TO": "1"}), 2, f"{path}: {why}", "")
     assert os.path.getsize(LED) == 0, "a server was looked for"
@@ -352,8 +350,7 @@ def check_terminal(rows):
     for value, shown in rows:
         row = Row(("upsc", "su", "a"), b'VAR su a "%s"\n' % value, b"GET VAR su a\n", value + b"\n")
         check([row])
-        reading, terminal = os.openpty()
-        tty.setraw(terminal)
+        reading, terminal = terminal_ends()
         child = start(row.words, {"LEAD_TO": str(PEER.port)}, stdout=terminal)
         assert PEER.meet(row.reply, row.ending, child) == row.sent
         assert (child.wait(60), got := os.read(reading, 4096)) == (0, shown + b"\n"), got
@@ -441,32 +438,20 @@ def explained():
     yield ("upsc", b"su\xff"), None, ARGUMENT, "a word is not UTF-8"
 
 
-def shown_on(terminal, words, reply):
-    """What the program's standard error gets, a terminal or a pipe."""
-    reading, writing = os.openpty() if terminal else os.pipe()
-    if terminal:
-        tty.setraw(writing)
-    child = start(words, {"LEAD_TO": str(PEER.port) if reply is not None else "1"}, stderr=writing, more=())
-    os.close(writing)
-    if reply is not None:
-        PEER.meet(reply, ENDS, child)
-    child.communicate(timeout=PATIENCE)
-    faults = b""
-    with contextlib.suppress(OSError):  # a terminal that nobody has open any more
-        while piece := os.read(reading, 4096):
-            faults += piece
-    os.close(reading)
-    return faults
-
-
 def check_explained(rows):
     """A program that reads standard error gets each fault as one line; a person at a terminal gets the one that explains it, too."""
-    count = 0
+    rows = list(rows)
     for words, reply, fault, why in rows:
-        assert (got := shown_on(False, words, reply)) == reported(words, fault), f"{words}: {got}"
-        assert (got := shown_on(True, words, reply)) == reported(words, fault, why), f"{words}: {got}"
-        count += 1
-    return f"{count} faults"
+        for ends, lines in (os.pipe, [fault]), (terminal_ends, [fault, why]):
+            reading, writing = ends()
+            child = start(words, {"LEAD_TO": str(PEER.port if reply is not None else 1)}, stderr=writing, more=())
+            if reply is not None:
+                PEER.meet(reply, ENDS, child)
+            child.communicate(timeout=PATIENCE)
+            assert (got := os.read(reading, 4096)) == reported(words, *lines), f"{words}: {got}"
+            for end in reading, writing:
+                os.close(end)
+    return f"{len(rows)} faults"
 
 
 # What each word of a refusal means.

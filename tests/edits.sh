@@ -40,13 +40,18 @@ says() {
 
 crate counting "$(function_of two 2 '1 + 1')" "$(function_of three 3 '2 + 1')" "$(function_of four 4 '3 + 1')" \
     "$(function_of six 6 'two() + four()')"
+mkdir -p "$folder/crates/counting/proofs/four"
+printf '%s\n' 'use Rattle.std.proofs.Common.{refl}' 'use Rattle.counting.proofs.four.Goals as goal' '' \
+    'pub returns : goal.returns' 'returns c = refl' >"$folder/crates/counting/proofs/four/Answers.antt"
 edit counting 'Two is three' two '    1 + 1' '    1 + 2'
 edit counting 'Four is five' four '    3 + 1' '    3 + 2'
 judge counting
 says 'a wrong body is refused at its own function' 'counting: Two is three: refused: counting::two: '
-says 'each of a round is judged by itself' 'counting: Four is five: refused: counting::four: '
+says 'each of a round is judged by itself, and one of a proof by hand is named' \
+    'counting: Four is five: refused, of a proof by hand: counting::four: '
 says 'one round is enough' 'counting: 2 edits in 1 rounds'
 says 'they are counted' '^edits: 2 refused, 0 failed$'
+says 'and those of a proof by hand' '^edits: 1 refused of functions with a proof by hand$'
 
 edit counting 'Two is three' two '    1 + 1' '    1 + 2'
 edit counting 'Six in another order' six 'two() + four()' 'four() + two()'

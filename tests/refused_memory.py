@@ -144,13 +144,13 @@ def serving(reported):
 
 
 def a_listing_asks_for_no_memory():
-    """From before `LIST VAR` is sent, every request is refused: it is accepted, and the listing comes whole."""
+    """From its client's open on, every request is refused: `LIST VAR`, its first line, is accepted, and the listing comes whole."""
     value = b'"' + b'\\"' * 512 + b'"'
     items = [b"su %064d %b\n" % (number, value) for number in range(1, MANY)]
     want = b"BEGIN LIST VAR su\n" + b"".join(b"VAR " + item for item in items) + SERVED + b"END LIST VAR su\n"
     with serving(b"".join(item.replace(b"su", b"SETINFO", 1) for item in items) + STATUS) as (server, _, _):
         client = server.client(buffer=4096)
-        assert client.ask(b"NETVER\n") == b"1.3\n"
+        assert server.client().ask(b"NETVER\n") == b"1.3\n"  # it came later, so both are open
         before = CONTROL.requests
         CONTROL.refuse_all()
         client.send(b"LIST VAR su\n")

@@ -160,10 +160,16 @@ def ends_in_full(*words):
     return ended.returncode, ended.stderr
 
 
-def ends_on_a_terminal(*words, **more):
-    """How a program ends whose standard error is a terminal: its status, and what is shown there."""
+def terminal_ends():
+    """Both ends of a terminal that changes no byte."""
     reading, terminal = os.openpty()
     tty.setraw(terminal)
+    return reading, terminal
+
+
+def ends_on_a_terminal(*words, **more):
+    """How a program ends whose standard error is a terminal: its status, and what is shown there."""
+    reading, terminal = terminal_ends()
     ended = subprocess.run(words, stdin=subprocess.DEVNULL, stdout=subprocess.DEVNULL, stderr=terminal, timeout=60, check=False, **more)
     os.set_blocking(reading, False)
     shown = os.read(reading, 1 << 16) if ended.returncode else b""

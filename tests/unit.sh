@@ -78,7 +78,7 @@ judge() {
         sed -e "s|/usr/local/sbin|$top/crates/upsd/out|" -e "s|/etc/voqarchay|$folder|")" 2>said
 }
 mv users upsd.users
-judge && echo here=1 >upsd.users && ! judge && [[ $(head -n 1 said) == "upsd: $folder/upsd.users:1: cause "* ]] && ok
+judge && echo here=1 >upsd.users && ! judge && [[ $(cat said) == "upsd: $folder/upsd.users:1: cause 1"$'\n'"upsd: cause 1: malformed line" ]] && ok
 rm upsd.users
 ! judge && [[ $(head -n 1 said) == "upsd: $folder/upsd.users: cannot read" ]] && grep -q '^SyslogIdentifier=upsd$' "$top/examples/voqarchay.service" && ok
 # The pause, where systemd has counted so many tries, last saw the server in that second, and the last start failed in that one.

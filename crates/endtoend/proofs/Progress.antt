@@ -2,11 +2,10 @@
 use Rattle.std.proofs.Common.{◌≡◌, ◌∙◌, ℕ, ◌^◌, ◌<◌, ◌≤◌, Bool, true}
 use Rattle.std.proofs.Common.{false, eqb, ltb, List, [], ◌∷◌, ◌++◌, length, append-nil}
 use Rattle.std.proofs.Common.{Option, Some, None, Ok, if◌then◌else◌, refl, ap, subst, arith}
-use Rattle.std.specs.Prelude.{codes, map, option_map, slice_get, ◌==◌}
+use Rattle.std.specs.Prelude.{codes, map, option_and_then, option_map, slice_get, ◌==◌}
 use Rattle.std.specs.Fmt.{decimal}
 use Rattle.std.specs.List.{find}
 use Rattle.std.specs.Option.{ok_or}
-use Rattle.std.proofs.lemmas.Bool.{eq-eqb}
 use Rattle.std.proofs.lemmas.Bool.Decides.{nat_tests}
 use Rattle.std.proofs.lemmas.Grind.{common_steps}
 use Rattle.std.proofs.lemmas.Fmt.{decimal_is_IsNumeral, length-decimal-le}
@@ -36,13 +35,13 @@ use Rattle.nutcore.specs.Reply.{text_to}
 use Rattle.nutcore.specs.Reply as server
 use Rattle.nutrequest.specs.declared.request.Request.TheVariants as requests
 use Rattle.nutrequest.specs.Reply.{Reply, Whole, reply, after_first, first_or, refusal_of, one_item}
-use Rattle.nutrequest.specs.Reply.{is_that, is_some_number, progress_in}
-use Rattle.nutrequest.specs.Reply as client
+use Rattle.nutrequest.specs.Reply.{is_some_number, expected_of, progress_in}
 use Rattle.nutclient.specs.Requests.{reply_behind}
 use Rattle.nutclient.specs.Printed.{Prints, printed, printed_of}
 use Rattle.nutclient.specs.declared.form.Form.TheVariants as forms
 use Rattle.endtoend.specs.Tracked.{UpscPrintsHowFarAnOrderHasCome, UpscPrintsWhatItsDriverReported}
 use Rattle.endtoend.specs.Served.{IsReadAsAsked}
+use Rattle.endtoend.proofs.FrameReading.{behind-same}
 use Rattle.endtoend.proofs.Ids.{id_written}
 use Rattle.endtoend.proofs.Numbers.{digits_all, written_read}
 use Rattle.endtoend.proofs.Refused.{first_read, refused_read}
@@ -96,13 +95,10 @@ words_told (Done n) lawful = by_zero (eqb n 0) refl
 abbrev all_words : ℕ → Progress → List (List ℕ)
 all_words id progress = codes "TRACKING" ∷ id_text id ∷ progress_words progress
 
-progress_told : (id : ℕ) (progress : Progress) → id < 2 ^ 128 → IsLawfulProgress progress →
-    client.progress_of id (id_text id ∷ progress_words progress) ≡ Some (told_text progress)
-progress_told id progress small lawful =
-    ap (λ (o : Option ℕ). if is_that id o then progress_in (progress_words progress) else None)
-    (written_is_read id small)
-    ∙ ap (λ (b : Bool). if b then progress_in (progress_words progress) else None) (eq-eqb id id refl)
-    ∙ words_told progress lawful
+progress_told : (id : ℕ) (progress : Progress) → IsLawfulProgress progress →
+    expected_of (requests.GetTracking id) (all_words id progress) ≡ Some (told_text progress)
+progress_told id progress lawful = ap (option_and_then progress_in)
+    (behind-same (codes "TRACKING" ∷ id_text id ∷ []) (progress_words progress)) ∙ words_told progress lawful
 
 -- they are written as they are
 words_written : (id : ℕ) (progress : Progress) → IsLawfulProgress progress →
@@ -183,7 +179,7 @@ prints_progress = record {
       Whole (one_item (told_text progress)) more =
       first_read (requests.GetTracking id) words words more (words_written id progress mine)
       ∙ ap (λ (o : Option (List ℕ)). after_first (requests.GetTracking id)
-      (first_or o (refusal_of words)) more) (progress_told id progress small mine) in
+      (first_or o (refusal_of words)) more) (progress_told id progress mine) in
       ap (λ (t : List ℕ). printed (requests.GetTracking id ∷ []) forms.Value (t ++ more)) answer
       ∙ ap (λ (r : Reply). printed_of forms.Value (reply_behind r (λ items rest. Whole items rest))) whole
       ∙ ap Prints (printed_text progress);

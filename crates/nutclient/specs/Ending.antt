@@ -1,5 +1,6 @@
 -- With which status a program ends, and what it prints on standard error.
-use Rattle.std.specs.Prelude.{◌≡◌, ℕ, Bool, true, false, List, [], ◌∷◌, ◌++◌, Option, Result, Ok, Err, codes}
+use Rattle.std.specs.Prelude.{◌≡◌, ℕ, Bool, true, false, List, [], ◌∷◌, ◌++◌, Option, Result, Ok}
+use Rattle.std.specs.Prelude.{Err, codes}
 use Rattle.std.specs.List.{flat_map}
 use Rattle.nutio.specs.Ends.{Received, Written}
 use Rattle.nutrequest.specs.Request.{request_line}
@@ -59,7 +60,8 @@ abbrev pub DoesJob : {R W O E : Type 0} → (R → Option (List ℕ)) → (R →
     → (W → ℕ) → (O → Option (List ℕ)) → (O → ℕ) → (E → Option (List ℕ)) → (E → ℕ) → Bool → Program
     → List Request → Form → Bool → R → W → O → E → ℕ → List ℕ → R → W → O → E → Type 0
 DoesJob remaining failures contents write_failures printed print_failures reported report_failures
-    is_explained program requests form is_terminal reader writer out err status rest after sent then told =
+    is_explained program requests form is_terminal reader writer out err status rest after sent then
+    told =
     (outcome : Result (Unit {0}) ClientFault)
     × RunGives remaining failures contents write_failures printed print_failures
     requests form is_terminal [] reader writer out outcome rest after sent then

@@ -28,7 +28,8 @@ pub(crate) fn obey<C: Client, N: Network, O: Sink, E: Sink>(
     ensures gives { (given : Given) × C.asks found.now given
         × Obeys N.Reader.remaining N.Reader.failures N.Writer.contents N.Writer.failures
         O.contents O.failures E.contents E.failures (N.connects network.now)
-        clues.now.is_explained C.PROGRAM (job_of given) is_terminal out.old err.old result out.new err.new }
+        clues.now.is_explained C.PROGRAM (job_of given) is_terminal
+        out.old err.old result out.new err.new }
     ensures status { EndsAsAsked C.asks found.now result }
 {
     let program = C::PROGRAM;

@@ -97,8 +97,8 @@ pub fn read_script<'a, R: FileReader>(reader: &R, path: &'a str) -> Result<Vec<u
     Ok(script)
 }
 
-/// Leaves out the last line of a record if it has no LF. It was cut, as by a full disk or the end of
-/// the server that wrote it. That is reported.
+/// Leaves out the last line of a record if it has no LF, and reports that. It was cut, as by a full
+/// disk or the end of the server that wrote it.
 fn leave_out_cut<R: FileReader>(reader: &R, path: &str, record: &mut Vec<u8>)
     ensures { record.new.items ≡ whole_lines record.old.items }
 {
