@@ -72,17 +72,90 @@ else
     ok
 fi
 
-# What the unit does before a start. The users' file is judged where it is, and named so.
-judge() {
-    sh -c "$(sed -n "s/^ExecStartPre=+.bin.sh -c '\(.*users.*\)'$/\1/p" "$top/examples/voqarchay.service" |
-        sed -e "s|/usr/local/sbin|$top/crates/upsd/out|" -e "s|/etc/voqarchay|$folder|")" 2>said
+# A forced shutdown that a dead server had is ordered again, of the UPSs that are named, as the first user who may. Nobody else's words
+# count as one, nor a driver's.
+cat >upsd.users <<'USERS'
+[admin]
+password = x
+actions = SET
+"[the primary]"
+"password" = "s3 \"cret"
+upsmon primary
+USERS
+cp upsd.users users
+asks() {
+    exec 3<>"/dev/tcp/${address%:*}/${address#*:}"
+    printf '%s\n' "$@" LOGOUT >&3
+    cat <&3
 }
-mv users upsd.users
-judge && echo here=1 >upsd.users && ! judge && [[ $(head -n 1 said) == "upsd: $folder/upsd.users:1: cause "* ]] && ok
+again() { MAINPID=$server LISTEN=$address NUT_CONFPATH=$folder/none UPSES=$folder/upses.conf USERS=$folder/upsd.users CREDENTIALS_DIRECTORY=$folder KEPT=$folder/kept "$top/tools/started"; }
+cat >kept <<'LINES'
+upsd: good: mon@192.0.2.1 ordered FSD: forced shutdown
+upsd: good: mon@192.0.2.2 ordered FSD: forced shutdown
+upsd: gone: status ordered FSD: forced shutdown
+upsd: none: a\x20b@192.0.2.1 ordered FSD: forced shutdown
+LINES
+serve good gone
+[[ $(again) == '<2>upsd: none: the forced shutdown of before the crash isn'"'"'t set again: ERR UNKNOWN-UPS' ]] && ok
+[[ $(asks 'GET VAR good ups.status') == $'VAR good ups.status "FSD OB LB"\nOK Goodbye' ]] && ok
+[[ $(grep -c 'ordered FSD' journal) == 1 ]] && grep -qx 'upsd: good: the\\x20primary@127.0.0.1 ordered FSD: forced shutdown' journal && ok
+rm kept
+serve good
+again && [[ $(asks 'GET VAR good ups.status') == 'VAR good ups.status "OB LB"'* ]] && ok
+# What the unit keeps of the run that ended: nothing where somebody ended it.
+mkdir bin
+printf '#!/bin/sh\necho "$*" >>asked\n[ "$1" = --sync ] || echo line of $INVOCATION_ID\n' >bin/journalctl
+chmod +x bin/journalctl
+ended() {
+    SERVICE_RESULT=$1 EXIT_STATUS=$2 INVOCATION_ID=$3 PATH=$folder/bin:$PATH bash -c "$(sed -n "s/^ExecStopPost=+-.bin.bash -c '\(.*\)'$/\1/p" "$top/examples/voqarchay.service" |
+        sed -e 's/\$\$/$/g' -e "s|%t|$folder|g")"
+}
+ended signal KILL 1 && ended exit-code TERM 2 && ended success HUP 3 && [[ $(cat voqarchay.fsd) == $'line of 1\nline of 2\nline of 3' ]] && ok
+grep -qx -- '-q -o cat -g ordered FSD: forced shutdown _SYSTEMD_INVOCATION_ID=2' asked && [[ $(stat -c %a voqarchay.fsd) == 644 ]] && ok
+ended success TERM 4 && [[ ! -e voqarchay.fsd ]] && ok
+[[ $(sed -n 's|.*KEPT:-/run/\(.*\)}.*|\1|p' "$top/tools/started") == voqarchay.fsd ]] && ok
+# What may be a slip, and what stands in NUT's files alone.
+printf '[admin]\npassword = x\nupsmon secondary\n' >upsd.users
+printf '[good]\nsocket = %s\n[twin]\nsocket = %s\n[near]\nsocket = run/near\n' "$folder/good" "$folder/good" >upses.conf
+mkdir nut
+printf '[good]\n' >nut/ups.conf
+touch -d '+1 hour' nut/upsd.users
+MAINPID=$server LISTEN=$address NUT_CONFPATH=nut UPSES=upses.conf USERS=upsd.users CREDENTIALS_DIRECTORY=. KEPT=kept "$top/tools/started" >said
+diff - said <<'SAID' && ok
+<4>upsd: twin: upses.conf: it has the socket of good, whose state it shows
+<4>upsd: near: upses.conf: its socket is no whole path
+<4>upsd: upsd.users: nobody may order a forced shutdown: the primary wants a user with upsmon primary
+<4>upsd: nut/upsd.users is newer than upsd.users: this server reads the second one alone
+SAID
+
+# What the unit does before a start. The users' file is judged where it is, and named so, and the list where it is there.
+judge() {
+    UPSES=$folder/upses.conf sh -c "$(sed -n "s/^ExecStartPre=+.bin.sh -c '\(.*users.*\)'$/\1/p" "$top/examples/voqarchay.service" |
+        sed -e 's/\$\$/$/g' -e "s|/usr/local/sbin|$top/crates/upsd/out|" -e "s|/etc/voqarchay|$folder|g")" 2>said
+}
+: >upsd.users >cmdvartab
+judge && rm upses.conf && judge && ok
+echo '[su' >upses.conf
+! judge && [[ $(head -n 1 said) == "upsd: $folder/upses.conf:1: cause 1" ]] && rm upses.conf && ok
+echo here=1 >upsd.users && ! judge && [[ $(head -n 1 said) == "upsd: $folder/upsd.users:1: cause "* ]] && ok
 rm upsd.users
 ! judge && [[ $(head -n 1 said) == "upsd: $folder/upsd.users: cannot read" ]] && grep -q '^SyslogIdentifier=upsd$' "$top/examples/voqarchay.service" && ok
+# The server takes the words of the unit's command, with the variables as they are, and as from_nut may set them.
+runs_with() {
+    (
+        while read -r variables; do eval "export $variables"; done < <(sed -n 's/^Environment=//p' "$top/examples/voqarchay.service")
+        export LISTEN=127.0.0.1:0 UPSES=$folder/upses.conf "$@"
+        eval "timeout 1 $(sed -n 's/^ExecStart=//p' "$top/examples/voqarchay.service" |
+            sed -e "s|/usr/local/sbin|$top/crates/upsd/out|; s|/etc/voqarchay|$folder|; s|%d|$folder|")" >said 2>&1 || true
+    )
+    grep -c '^upsd: listening on 127.0.0.1:' said
+}
+: >upses.conf >upsd.users
+[[ $(runs_with MAXAGE=15) == 1 ]] && ok
+[[ $(runs_with TRACKING= OPTIONS='--nut-bytes --listen 127.0.0.1:0') == 2 ]] && ok
+[[ $(runs_with MAXAGE=15.5) == 0 ]] && ok
+grep -q '^LimitFSIZE=infinity$' "$top/examples/voqarchay.service" && ok
 # The pause, where systemd has counted so many tries, last saw the server in that second, and the last start failed in that one.
-mkdir bin
 printf '#!/bin/sh\ncat shown\n' >bin/systemctl
 printf '#!/bin/sh\necho "$1"\n' >bin/sleep
 printf '#!/bin/sh\ncat "$NUT_CONFPATH/upsmon.conf"\n' >bin/unshare
@@ -121,5 +194,5 @@ MINSUPPLIES 1
 SHUTDOWNCMD "logger -s -t drill would shut down"
 CONF
 if NUT_CONFPATH=. "$top/tools/drill" su@localhost 2>/dev/null; then exit 1; fi
-echo "unit: $checks of 18 checks"
-[[ $checks == 18 ]]
+echo "unit: $checks of 33 checks"
+[[ $checks == 33 ]]
