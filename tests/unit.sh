@@ -13,10 +13,24 @@ cd "$folder"
 
 checks=0
 ok() { checks=$((checks + 1)); }
+mkdir bin
+cat >bin/journalctl <<'SH'
+#!/bin/sh
+echo "$*" >>asked
+case "$*" in
+*-15min) printf 'upsd: %s\n' 'sent away: 192.0.2.7: 12' 'sent away: 2001:db8::9' '192.0.2.1 gave way to 192.0.2.7 after 312 s of silence' 'su: status OL' ;;
+*-g*) echo "line of $INVOCATION_ID" ;;
+esac
+SH
+chmod +x bin/journalctl
+metrics() { PATH=$folder/bin:$PATH "$top/tools/metrics" "$@"; }
 for kind in short endless; do
     python3 "$top/tests/unit_peers.py" $kind >$kind.port 2>/dev/null &
     running+=("$!")
 done
+: >table
+python3 "$top/tests/unit_peers.py" table table >table.port 2>/dev/null &
+running+=("$!")
 for ups in good stale; do
     python3 "$top/tests/unit_peers.py" $ups &
     running+=("$!")
@@ -44,21 +58,43 @@ took=$((${EPOCHREALTIME/./} - begun))
 first=$address
 serve good stale gone
 begun=$SECONDS
-"$top/tools/metrics" "127.0.0.1:$(cat endless.port)" >endless 2>/dev/null &
+metrics "127.0.0.1:$(cat endless.port)" >endless 2>/dev/null &
 running+=("$!")
 started "$server" "$address" >/dev/null && ((SECONDS - begun >= 9)) && ok
-"$top/tools/metrics" "$address" | grep -v '^ups_time_seconds ' >metrics
+exec {one}<>"/dev/tcp/${address%:*}/${address#*:}" {two}<>"/dev/tcp/${address%:*}/${address#*:}"
+metrics "$address" | grep -v '^ups_time_seconds ' >metrics
+exec {one}>&- {two}>&-
 diff "$top/tests/scripts/metrics" metrics && ok
 wait "${running[-1]}" && grep -q '^ups_server_up 0$' endless && ((SECONDS - begun <= 30)) && ok
-[[ $("$top/tools/metrics" "127.0.0.1:$(cat short.port)") == *'ups_b_c{ups="a\"b"} 5'* ]] && ok
+[[ $(metrics "127.0.0.1:$(cat short.port)") == *'ups_b_c{ups="a\"b"} 5'* ]] && ok
 # The server has ended, and another one has the port.
 kill "$server"
 wait "$server" || true
 begun=$SECONDS
 if started "$server" "$first"; then exit 1; fi
 ((SECONDS - begun < 3)) && ok
-"$top/tools/metrics" "$address" 2>/dev/null >away || true
+metrics "$address" 2>/dev/null >away || true
 grep -q '^ups_server_up 0$' away && ok
+# A server that refuses, that has no place, that breaks a line off or counts oddly; at an IPv6 address, too. None is a state of a UPS.
+is_away() {
+    metrics "${2-127.0.0.1:$(cat table.port)}" >said 2>fault
+    diff <(sed 's/[0-9.]*$//' said) <(sed 's/[0-9.]*$//' away) && [[ $(cat fault) == "metrics: ${2-127.0.0.1:$(cat table.port)}: $1" ]] && ok
+}
+echo 'LIST UPS|ERR ACCESS-DENIED' >table
+is_away 'LIST UPS: ERR ACCESS-DENIED'
+echo 'LIST UPS|' >table
+is_away 'closed before its answer: are all places taken?'
+is_away 'closed before its answer: are all places taken?' "[::1]:$(cat table.port)"
+printf '%s\n' 'LIST UPS|BEGIN LIST UPS\nUPS su "x"\nEND LIST UPS' 'LIST VAR "su"|BEGIN LIST VAR su\nVAR su ups.load "5"\nEND LIST VAR su' 'GET NUMLOGINS "su"|NUMLOGINS su 3}' >table
+metrics "[::1]:$(cat table.port)" >said && grep -q '^ups_load{ups="su"} 5$' said && ! grep -q ups_logins said && ok
+for word in :99999 127.0.0.1:99999 '[::1]x' localhost:abc ''; do
+    status=0
+    metrics "$word" >said 2>fault || status=$?
+    [[ $status == 2 && ! -s said && $(cat fault) == "metrics: $word: not HOST[:PORT]" ]] && ok
+done
+# Each rule is about what there is.
+for name in $(grep -o '\<ups_[a-z_]*' "$top/examples/upsd-alerts.yml" | sort -u); do grep -q "^$name[ {]" metrics away || echo "alerts: $name"; done | cmp - /dev/null && ok
+[[ $(grep -A 1 'alert: NearlyFull' "$top/examples/upsd-alerts.yml") == *ups_server_clients* && $(grep -A 1 'alert: ForcedShutdown' "$top/examples/upsd-alerts.yml") == *FSD* ]] && ok
 # The rule for that is about what there is then, and names no UPS.
 rule=$(grep -A 5 'alert: NoServer' "$top/examples/upsd-alerts.yml")
 [[ $(grep -o '\<ups_[a-z_]*' <<<"$rule" | sort) == "$(sed -n 's/^\(ups_[a-z_]*\) .*/\1/p' away | sort)" && $rule != *labels.ups* ]] && ok
@@ -103,9 +139,6 @@ rm kept
 serve good
 again && [[ $(asks 'GET VAR good ups.status') == 'VAR good ups.status "OB LB"'* ]] && ok
 # What the unit keeps of the run that ended: nothing where somebody ended it.
-mkdir bin
-printf '#!/bin/sh\necho "$*" >>asked\n[ "$1" = --sync ] || echo line of $INVOCATION_ID\n' >bin/journalctl
-chmod +x bin/journalctl
 ended() {
     SERVICE_RESULT=$1 EXIT_STATUS=$2 INVOCATION_ID=$3 PATH=$folder/bin:$PATH bash -c "$(sed -n "s/^ExecStopPost=+-.bin.bash -c '\(.*\)'$/\1/p" "$top/examples/voqarchay.service" |
         sed -e 's/\$\$/$/g' -e "s|%t|$folder|g")"
@@ -194,5 +227,5 @@ MINSUPPLIES 1
 SHUTDOWNCMD "logger -s -t drill would shut down"
 CONF
 if NUT_CONFPATH=. "$top/tools/drill" su@localhost 2>/dev/null; then exit 1; fi
-echo "unit: $checks of 33 checks"
-[[ $checks == 33 ]]
+echo "unit: $checks of 44 checks"
+[[ $checks == 44 ]]
