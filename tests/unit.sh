@@ -214,6 +214,7 @@ pause() {
 cat >upsmon.conf <<'CONF'
 MONITOR rack@localhost 1 monpri "local pass" primary
 MONITOR lab@m2 0 monpri local_pass primary
+MONITOR core 1 monsec local_pass secondary
 SHUTDOWNCMD "/sbin/shutdown -h +0"
 NOTIFYCMD /sbin/upssched
 POWERDOWNFLAG /etc/killpower
@@ -227,5 +228,8 @@ MINSUPPLIES 1
 SHUTDOWNCMD "logger -s -t drill would shut down"
 CONF
 if NUT_CONFPATH=. "$top/tools/drill" su@localhost 2>/dev/null; then exit 1; fi
-echo "unit: $checks of 44 checks"
-[[ $checks == 44 ]]
+drilled() { PATH=$folder/bin:$PATH NUT_CONFPATH=. "$top/tools/drill" "$1" | head -n 1; }
+[[ $(drilled rack@localhost) == 'MONITOR drill@localhost 1 monpri "local pass" primary' && $(drilled core) == 'MONITOR drill 1 monsec local_pass secondary' ]] && ok
+[[ $("$top/tools/drill" --help) == 'usage: drill UPS@HOST, as in a MONITOR line of upsmon.conf' ]] && ok
+echo "unit: $checks of 46 checks"
+[[ $checks == 46 ]]
