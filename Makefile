@@ -19,16 +19,18 @@ DRIVER = lib/voqarchay/demodriver
 # for ours.
 MINE = share/voqarchay
 DOC = share/doc/voqarchay
-TEXTS = OPERATING.md power-failure.svg FROM_NUT.md INTEROP.md FILES.md CLIENTS.md PROTOCOL.md DRIVER.md
+TEXTS = README.md SECURITY.md $(addprefix docs/, OPERATING.md power-failure.svg costs.svg costs-small.svg FROM_NUT.md INTEROP.md PROTOCOL.md DRIVER.md PROVED.md LAWS.md COSTS.md)
+# Of a link in them to a page that isn't installed the words are left.
+UNLINKED = s|\]\(docs/|](|g; s/\[([^]]*)\]\((CHANGELOG|CONTRIBUTING|ARCHITECTURE|DECISIONS|LICENSE)(\.md[^)]*)?\)/\1/g
 EXAMPLES = $(addprefix $(DOC)/examples/, upses.conf upsd.users cmdvartab from_ups_conf.conf ups_conf_changed.conf upsd-metrics.service upsd-metrics.timer upsd-alerts.yml record.conf)
 PAGES = $(addprefix share/man/man5/, $(notdir $(wildcard man/*.5))) $(addprefix share/man/man8/, $(notdir $(wildcard man/*.8)))
 COMPLETIONS = $(addprefix share/bash-completion/completions/, $(PROGRAMS))
-FILES = sbin/upsd sbin/from_nut $(addprefix bin/, $(CLIENTS)) $(PAGES) $(addprefix $(DOC)/, $(TEXTS)) $(EXAMPLES) $(COMPLETIONS) $(addprefix $(MINE)/, started metrics mask drill) $(DRIVER) $(UNITS)
+FILES = sbin/upsd sbin/from_nut $(addprefix bin/, $(CLIENTS)) $(PAGES) $(addprefix $(DOC)/, $(notdir $(TEXTS))) $(EXAMPLES) $(COMPLETIONS) $(addprefix $(MINE)/, started metrics mask drill) $(DRIVER) $(UNITS)
 LIST = $(ROOT)/$(MINE)/installed
 
 # Proves and builds: a program that isn't proved isn't built. It stands as crates/NAME/out/NAME then.
 all:
-	python3 tools/build.py $(PROGRAMS) demodriver
+	@python3 tools/build.py $(PROGRAMS) demodriver
 
 # The same programs for ARM64, over the libraries that are built: crates/NAME/out/NAME.arm64.
 arm64:
@@ -38,9 +40,17 @@ arm64:
 demo:
 	@bash tools/demo
 
+# The same, over programs that are not proved, which takes minutes to compile: crates/NAME/out/NAME.try. Nothing installs them.
+try:
+	@python3 tools/try.py $(PROGRAMS) demodriver && bash tools/demo .try
+
+# The scripts of tests/ over those programs, but what needs proved ones.
+test-try:
+	@python3 tools/try.py $(PROGRAMS) demodriver && bash tools/test_try
+
 # Every proof from nothing, the edits that must fail, the tests, and the scripts of tests/.
 test:
-	bash .ci/run
+	@python3 tools/kit.py && bash .ci/run
 
 # The scripts of tests/ that need only the programs, over those for ARM64, under qemu-user.
 test-arm64:
@@ -59,7 +69,8 @@ install:
 	for program in $(CLIENTS); do install crates/$$program/out/$$program$(BUILT) $(ROOT)/bin/$$program || exit 1; done
 	install -m 644 man/*.5 $(ROOT)/share/man/man5
 	install -m 644 man/*.8 $(ROOT)/share/man/man8
-	install -m 644 $(addprefix docs/, $(TEXTS)) $(ROOT)/$(DOC)
+	install -m 644 $(TEXTS) $(ROOT)/$(DOC)
+	sed -Ei '$(UNLINKED)' $(ROOT)/$(DOC)/*.md
 	for file in $(EXAMPLES) $(UNITS); do \
 	    sed 's|/usr/local|$(PREFIX)|' examples/$${file##*/} >$(ROOT)/$$file && chmod 644 $(ROOT)/$$file || exit 1; \
 	done
@@ -83,7 +94,9 @@ deb:
 	bash tools/deb $(VERSION) $(PACKAGES) $(ARCHITECTURE)
 
 # The files of a release, in dist/: packages and tar files for both, their sums, and what is proved of them.
-release: all arm64
+release:
+	@bash tools/release --needs
+	$(MAKE) all arm64
 	bash tools/release $(VERSION)
 
-.PHONY: all arm64 clean demo test test-arm64 install uninstall deb release
+.PHONY: all arm64 clean demo try test-try test test-arm64 install uninstall deb release

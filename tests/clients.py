@@ -20,6 +20,7 @@ from replaying import HERE, Bench, built, plain, sections, text_of
 
 PROGRAMS = {os.path.basename(program): program for program in built("upsc", "upsrw", "upscmd")}
 BENCH = Bench("clients", PROGRAMS["upsc"])
+PATIENCE = 60 * serving.SLOWER  # seconds
 NARROW = BENCH.library("narrow.c")
 LED = BENCH.file("led", b"")
 
@@ -62,13 +63,13 @@ class Peer:
 
     def __init__(self):
         self.listener = socket.create_server(("127.0.0.1", 0))
-        self.listener.settimeout(60)
+        self.listener.settimeout(PATIENCE)
         self.port = self.listener.getsockname()[1]
 
     def meet(self, reply, ending, child):
         """Sends the reply to the next client, and ends so. The answer is all that the client sent."""
         with self.listener.accept()[0] as wire:
-            wire.settimeout(60)
+            wire.settimeout(PATIENCE)
             if ending == PAUSES:
                 pause(child)
             if ending == FAILS:
@@ -118,7 +119,7 @@ def reported(words, *lines):
 
 def check_end(words, child, status, fault, why):
     """The program ends by this status, and reports only this fault, and why it came."""
-    printed, faults = child.communicate(timeout=60)
+    printed, faults = child.communicate(timeout=PATIENCE)
     got = (printed or b"", faults, child.returncode)
     assert got == (b"", reported(words, fault, why), status), f"{words}: {got}"
 
@@ -128,9 +129,9 @@ def meet(row, peer=PEER):
     child = start(row.words, {"LEAD_TO": str(peer.port), **row.narrow}, row.closed)
     try:
         sent = peer.meet(row.reply, row.ending, child)
-        printed, faults = child.communicate(timeout=60)
+        printed, faults = child.communicate(timeout=PATIENCE)
     except (TimeoutError, subprocess.TimeoutExpired) as error:
-        raise AssertionError(f"{row}: {error}") from None
+        raise AssertionError(f"{str(row)[:400]}: {error}") from None
     finally:
         child.kill()
         child.wait()
@@ -373,7 +374,7 @@ def check_unreached(programs):
         check_end(words, start(words, {"LEAD_TO": "1"}), 1, connect, f"{words_server(words)}: Connection refused")
     nowhere = "no-such-host.invalid"
     child = subprocess.Popen([PROGRAMS["upsc"], f"su@{nowhere}"], stdout=subprocess.PIPE, stderr=subprocess.PIPE)
-    printed, faults = child.communicate(timeout=60)
+    printed, faults = child.communicate(timeout=PATIENCE)
     begun = reported(("upsc",), connect) + f"upsc: {nowhere}: failed to lookup address information".encode()
     assert (printed, child.returncode, faults.startswith(begun), faults.count(b"\n")) == (b"", 1, True, 2), faults
     listener = socket.socket()

@@ -191,9 +191,11 @@ def missing(page, text, names):
 
 # How a page is written.
 
-ALL_WORDS, TELLING, CELL = 28_000, 0, 60
-SIZES = {"README.md": 800, "docs/COSTS.md": 930, "docs/ARCHITECTURE.md": 3200, "docs/CONTRIBUTING.md": 2610, "docs/PROVED.md": 5190,
-         "docs/DECISIONS.md": 2200, "docs/GLOSSARY.md": 500}  # fmt: skip
+# All of docs/ but what tools/proved makes of the laws.
+ALL_WORDS, TELLING, CELL = 21_000, 0, 60
+MADE = "docs/LAWS.md"
+SIZES = {"README.md": 800, "docs/COSTS.md": 1050, "docs/ARCHITECTURE.md": 3700, "docs/CONTRIBUTING.md": 2700, "docs/PROVED.md": 1750,
+         "docs/DECISIONS.md": 1150, "docs/INTEROP.md": 1450, "docs/PROTOCOL.md": 3150, "docs/OPERATING.md": 3200, MADE: 5000}  # fmt: skip
 TELLS = re.compile(r"\b(?:tells?|told)\b", re.I)
 
 
@@ -240,12 +242,13 @@ def main(some):
     texts, names = {page: text_of(page) for page in some or PAGES}, Names(sources())
     failed = [f"{page} names {it}, which isn't there" for page, text in texts.items() for it in missing(page, text, names)]
     failed += [f"{page}: {it}" for page, text in texts.items() for it in prose_faults(page, text)]
-    size = sum(words(text) for page, text in texts.items() if page.startswith("docs/"))
+    size = sum(words(text) for page, text in texts.items() if page.startswith("docs/") and page != MADE)
     telling = len(TELLS.findall("\n".join(texts.values())))
     if not some:
         failed += [f"the pages of docs/ have {size:,} words, of at most {ALL_WORDS:,}"] * (size > ALL_WORDS)
         failed += [f"tell, tells and told are used {telling} times, of at most {TELLING}"] * (telling > TELLING)
         failed += manual_faults()
+        failed += ["tools/costs.py --check"] * subprocess.run(["python3", "tools/costs.py", "--check"]).returncode
         failed += ["tools/proved --check"] * subprocess.run(["tools/proved", "--check"]).returncode
     print(*(f"pages: FAILED: {it}" for it in failed), sep="\n", end="\n" if failed else "")
     print(f"pages: {size:,} words, {telling} times tell, tells or told, {len(failed)} faults")

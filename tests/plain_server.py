@@ -1,4 +1,4 @@
-"""The server in plain Python, as docs/PROTOCOL.md, docs/DRIVER.md and docs/FILES.md describe it.
+"""The server in plain Python, as docs/PROTOCOL.md and docs/DRIVER.md describe it.
 
 It shares nothing with the program: it is what the program's answers are compared with. A listing is text as soon as
 its line is executed, and what is owed is one text. Where memory is refused is given, since it can't know.

@@ -1,5 +1,5 @@
 #!/usr/bin/env python3
-"""README: the limits that it names, and what its commands print; `make` and `rt ci` aren't run here. And that the version stands in one
+"""README: the limits that it names, and what its commands print; `make` and its tests aren't run here. And that the version stands in one
 place, from which the programs, the package and the changelog have it."""
 import os
 import pathlib
@@ -32,7 +32,14 @@ def is_limit(number, crate, constant):
 
 
 def limits_are_those_of_the_sources():
-    return each(re.findall(r"\| ([\d,]+) \| `(\w+)::(\w+)`", PAGE), is_limit)
+    rows = re.findall(r"^(\w.*) \| ([\d,]+) \| `(\w+)::(\w+)`$", text_of("docs/PROVED.md"), re.M)
+    of = {constant: number for _, number, _, constant in rows}
+    assert f"At most {of['UPS_LIMIT']} UPSs and {of['SESSION_LIMIT']} clients" in PAGE, rows
+    return each([it[1:] for it in rows], is_limit)
+
+
+def the_kit_is_the_one_that_is_checked():
+    assert f"ends in `{re.search('^WANTED = .(.*).$', text_of('tools/kit.py'), re.M)[1]}`" in PAGE
 
 
 def commands_print_what_is_shown():
@@ -42,7 +49,7 @@ def commands_print_what_is_shown():
 
 
 def the_demonstration_prints_what_is_shown_behind_it():
-    missing = set(BLOCKS[BLOCKS.index("make && make demo\n") + 1].splitlines()) - set(printed("timeout", "8", "make", "-s", "demo").splitlines())
+    missing = set(BLOCKS[BLOCKS.index("make try\n") + 1].splitlines()) - set(printed("timeout", "8", "make", "-s", "demo").splitlines())
     assert not missing, missing
 
 
@@ -51,7 +58,7 @@ def the_version_stands_in_one_place():
     for program in PROGRAMS:
         for word in "--version", "-V":
             assert BENCH.ends(word, program=program)[1] == f"{os.path.basename(program)} {version}\n".encode(), program
-    assert printed("make", "-n", "deb") == f"bash tools/deb {version} . amd64\n"
+    assert printed("make", "--no-print-directory", "-n", "deb") == f"bash tools/deb {version} . amd64\n"
     heading, line = re.search(r"^## (.*)\n(.*)", text_of("CHANGELOG.md"), re.M).groups()
     dev = version.endswith("~dev")
     assert heading == "[Unreleased]" if dev else heading.startswith(f"[{version}]"), heading

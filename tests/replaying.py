@@ -10,6 +10,8 @@ import time
 from plain_server import Replay, Server
 
 HERE = os.path.dirname(os.path.abspath(__file__))
+# How long a program may run, in seconds.
+PATIENCE = 1500 if "EMULATED" in os.environ else 300
 
 
 def built(*names):
@@ -62,7 +64,7 @@ class Bench:
     def ends(self, *words, program=None, **more):
         """How the program, given these words in the folder, ends: its status, output and errors."""
         ended = subprocess.run([program or self.program, *words], cwd=self.folder.name, stdin=subprocess.DEVNULL,
-                               capture_output=True, timeout=300, check=False, **more)  # fmt: skip
+                               capture_output=True, timeout=PATIENCE, check=False, **more)  # fmt: skip
         return ended.returncode, ended.stdout, ended.stderr
 
     def refuses_words(self, *words, program=None):

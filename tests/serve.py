@@ -276,9 +276,9 @@ def of_a_flood_each_line_is_logged_or_counted():
         with served() as (server, driver, good):
             begin = time.monotonic()
             flood(server, driver, good)
-            most = 12 * (time.monotonic() - begin + 2)
             for line, kind, count in wanted:
                 assert comes(lambda: sum(parts_of(server, line, kind)) == count, 3), (line, parts_of(server, line, kind))  # noqa: B023
+            most = 12 * (time.monotonic() - begin + 2)
             assert sum(parts_of(server, *wanted[0][:2])) > parts_of(server, *wanted[0][:2])[0], "nothing is counted"
             assert server.journal().count("\n") <= most, (most, server.journal())
 
@@ -641,7 +641,7 @@ def nobody_waits_for_slow_readers():
         worst = worst_wait(good, 500)
         grown = server.kilobytes("VmData") - before
         slow[7].send(b"LOGOUT\n")
-        slow[7].wire.settimeout(20)
+        slow[7].wire.settimeout(20 * serving.SLOWER)
         got = slow[7].up_to_end()
         assert got == many_listed(MANY, 256) * 8 + b"OK Goodbye\n", len(got)
         assert 0 < worst < LONGEST, f"a good client waited {worst:.3f} s"
@@ -670,7 +670,7 @@ def a_standing_connection_lists_without_delay():
             good.send(b"LIST VAR su\n")
             assert good.listing() == many_listed(1000, 10)
             waits.append(time.monotonic() - begin)
-        assert sorted(waits)[10] < 0.030, waits
+        assert sorted(waits)[10] < 0.030 * serving.SLOWER, waits
 
 
 def a_client_that_half_closes_gets_all():
@@ -766,7 +766,7 @@ def of_more_than_64_clients_that_left_the_oldest_are_closed():
             assert clients[-1].ask(b"LOGOUT\n") == b"OK Goodbye\n"
         clients.append(server.client())
         clients[-1].send(b"LOGOUT\n" + b"VER\n" * 20_000)
-        time.sleep(0.2)
+        time.sleep(0.2 * serving.SLOWER)
         assert server.descriptors() <= before + 64
         assert clients[-1].up_to_end() == b"OK Goodbye\n"
         for client in clients[:-1]:
@@ -884,7 +884,7 @@ def a_driver_with_orders_at_each_moment_is_heard():
             time.sleep(0.02)
         for process in busy:
             process.join()
-        assert worst < 1.0, f"what the driver reported was {worst:.3f} s old"
+        assert worst < 2 * LONGEST, f"what the driver reported was {worst:.3f} s old"
 
 
 def nobody_waits_long_beside_busy_clients_and_drivers():

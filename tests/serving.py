@@ -15,7 +15,7 @@ import tempfile
 import termios
 import time
 
-# Under an emulator (arm64/test), memory and waits are its own: what has to come gets more time.
+# Under an emulator (arm64/test) or a checker of memory (tools/test_try), memory and waits are its own: what has to come gets more time.
 EMULATED = "EMULATED" in os.environ
 SLOWER = 5 if EMULATED else 1
 READY = b"DUMPDONE\nDATAOK\n"
@@ -49,12 +49,12 @@ class Driver:
         self.listener = socket.socket(socket.AF_UNIX)
         self.listener.bind(path)
         self.listener.listen(8)
-        self.listener.settimeout(10)
+        self.listener.settimeout(10 * SLOWER)
 
     def accept(self, reported=None):
         """The server connects, and asks for all; the driver reports this."""
         self.wire = self.listener.accept()[0]
-        self.wire.settimeout(10)
+        self.wire.settimeout(10 * SLOWER)
         self.lines = self.wire.makefile("rb")
         assert self.line() == b"DUMPALL\n"
         if reported is not None:
@@ -95,7 +95,7 @@ class Client:
 
     def __init__(self, port, source="127.0.0.1", buffer=None):
         self.wire = socket.socket()
-        self.wire.settimeout(10)
+        self.wire.settimeout(10 * SLOWER)
         if buffer:
             self.wire.setsockopt(socket.SOL_SOCKET, socket.SO_RCVBUF, buffer)
         self.wire.bind((source, 0))

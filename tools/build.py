@@ -2,8 +2,8 @@
 
 usage: build.py NAME ..     at the top of the repository; each stands as crates/NAME/out/NAME then
 
-It builds by the kit's own module. Where that isn't as this script knows it, `rt` builds one crate after another, which takes
-longer. Ends with status 1 where one isn't proved."""
+It builds by the kit's own module. Where KIT=any takes a kit whose module this script doesn't know, `rt` builds one crate after
+another, which takes longer. Ends with status 1 where one isn't proved."""
 import concurrent.futures
 import os
 import re
@@ -19,6 +19,8 @@ except Exception:  # of another kit, it may fail in any way
 # From so many lines on a crate of the chain is checked by four jobs, and all else by two: two take 1.2 times the work of
 # one, four take 1.5 times.
 LONG = 900
+# What the kit says in the place of a check where the program stands built and proved of the same text.
+UNCHANGED = "rt: nothing has changed since the last proved build"
 
 
 def keep(crate, name, call):
@@ -32,13 +34,16 @@ def keep(crate, name, call):
 
 
 def is_kept(status, said, path):
-    """Keeps the last line of a check, which ended with this status and said this. Returns whether it went well."""
-    if status:
-        print(said, end="", flush=True)
-    elif last := re.findall(r"^logic=.*\n", said, re.M)[-1:]:
+    """Keeps the last line of a check, which ended with this status and said this. Returns whether it is proved, by this check or,
+    where nothing was checked, by the one whose line is kept."""
+    last = re.findall(r"^logic=.*\n", said, re.M)[-1:]
+    if status == 0 and last:
         with open(path, "w", encoding="utf-8") as file:
             file.writelines(last)
-    return status == 0
+    well = status == 0 and (bool(last) or UNCHANGED in said or os.path.isfile(path))
+    if not well:
+        print(said or f"{path}: the check said nothing of a proof\n", end="", flush=True)
+    return well
 
 
 def build(crate, jobs):
@@ -47,7 +52,7 @@ def build(crate, jobs):
     crate.held, flags = [], ["--jobs", str(jobs)]
     if crate.is_program:
         return keep(crate, "verdict", lambda: crate.run(flags, ["--version"]))
-    return keep(crate, "verdict", lambda: crate.build_rlib(flags, anew=False))
+    return crate.is_built() or keep(crate, "verdict", lambda: crate.build_rlib(flags, anew=False))
 
 
 def build_all(crates):
@@ -82,7 +87,7 @@ def crates_of(names):
         rtlib.guarded()
         programs = [it for it in rtlib.crates_below(os.getcwd()) if it.name in names]
         crates = {*programs, *[dep for it in programs for dep in it.below()]}
-        used = [rt.processors, *(getattr(it, call) for it in crates for call in ("run", "build_rlib", "count", "is_program"))]
+        used = [rt.processors, *(getattr(it, call) for it in crates for call in ("run", "build_rlib", "is_built", "count", "is_program"))]
         return crates if used else set()
     except (AttributeError, TypeError):
         print("build: the kit's module isn't as expected: one crate after another", flush=True)

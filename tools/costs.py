@@ -1,11 +1,17 @@
 #!/usr/bin/env python3
 """Measures what a request costs this server and NUT's, and prints the tables of docs/COSTS.md.
 
-It takes about 25 minutes on a machine that does nothing else, and needs the built upsd and crates/netbench (`rt run` in each), NUT's
-upsd (Debian's nut-server) and valgrind. Speed is the median of rounds in which the servers take turns. Words: speed, time, instructions,
-memory or idle, if not all are measured.
+usage: tools/costs.py [--write] [speed | time | instructions | memory | idle ..]     measures these, or all
+       tools/costs.py --picture | --check                                             measures nothing
+
+--write puts the tables into docs/COSTS.md, with the machine and the commit, and draws the pictures anew. --picture draws them of the
+tables that stand there: docs/costs.svg, and docs/costs-small.svg for README. --check ends with status 1 where they are others.
+
+Measuring takes about 25 minutes on a machine that does nothing else, and needs the built upsd and crates/netbench (`rt run` in each),
+NUT's upsd (Debian's nut-server) and valgrind. Speed is the median of rounds in which the servers take turns.
 """
 import contextlib
+import math
 import os
 import pathlib
 import random
@@ -187,12 +193,12 @@ def clients(server, count):
 LONG, RW, CMD = b"LIST VAR large\n", b"LIST RW large\n" * 140, b"LIST CMD large\n" * 128
 MEANWHILE = {
     "nothing": lambda *_: contextlib.nullcontext(),
-    "62 clients ask GET VAR without pause": lambda server, _, rates: asked(server, rates),
-    "62 clients ask GET VAR, half as often as the slower server can": lambda server, _, rates: asked(server, rates, min(rates[:2]) // 2),
+    "62 clients ask `GET VAR` without pause": lambda server, _, rates: asked(server, rates),
+    "62 clients ask half as often as the slower server can": lambda server, _, rates: asked(server, rates, min(rates[:2]) // 2),
     "60 clients stopped within a listing": lambda server, *_: beside(clients(server, 60), LONG, floods=False),
     "another driver writes without pause": lambda _, drivers, __: beside([drivers["large"]], reports(*SIZES["large"])[0]),
 } | {
-    f"{count} client{'s ask' if count > 1 else ' asks'} {text[:text.index(b' large')].decode()} without pause": lambda server, *_, text=text, count=count: beside(clients(server, count), text)
+    f"{count} client{'s ask' if count > 1 else ' asks'} `{text[:text.index(b' large')].decode()}` without pause": lambda server, *_, text=text, count=count: beside(clients(server, count), text)
     for text in (RW, CMD) for count in (1, 10, 40)
 }  # fmt: skip
 
@@ -239,38 +245,37 @@ def idle():
         return [[(b - a) / IDLE_MINUTES for a, b in zip(*of)] for of in zip(before, after)]
 
 
-def print_times():
-    print("meanwhile | ours: half/99 of 100/worst | NUT's | 99 of 100 better by", "---|---:|---:|---:", sep="\n")
+def time_rows():
+    rows = ["meanwhile | ours: half; 99 of 100; worst | NUT's", "---|---|---"]
     for what, of in times().items():
         parts = [[sorted(waits)[len(waits) * part // 100] for part in (50, 99)] + [max(waits)] for waits in of.values()]
-        shown = ["/".join(f"{part:,.0f}" for part in of_one) for of_one in parts]
-        print(f"{what} | {' | '.join(shown)} | {parts[1][1] / parts[0][1]:.2f}")
-    print(flush=True)
+        rows.append(" | ".join([what, *("; ".join(f"{part:,.0f}" for part in of_one) for of_one in parts)]))
+    return rows
 
 
 def machine():
     cpu = re.search(r"model name\s*: (.*)", pathlib.Path("/proc/cpuinfo").read_text())[1]
     nut = subprocess.run(["/lib/nut/upsd", "-V"], capture_output=True, text=True).stdout.split("\n")[0].split()[-1]
     commit = subprocess.run(["git", "log", "-1", "--format=%h (%cs)"], cwd=TOP, capture_output=True, text=True).stdout.strip()
-    return f"{os.cpu_count()} processors, {cpu}; Linux {os.uname().release}; NUT's upsd {nut}; upsd of {commit}"
+    load = " ".join(f"{it:.1f}" for it in os.getloadavg())
+    return [f"{os.cpu_count()} processors, {cpu}; Linux {os.uname().release}; NUT's upsd {nut}; upsd of {commit}; load at the end {load}."]
 
 
-def print_table(unit, rows):
-    print(f"{unit} | ours | NUT's | better by", "---|---:|---:|---:", sep="\n")
+def table(unit, rows):
+    yield from (f"{unit} | ours | NUT's | better by", "---|---:|---:|---:")
     for what, ours, nut in rows:
         better = ours / nut if unit == "a second" else nut / ours
-        print(f"{what} | {ours:,} | {nut:,} | {better:.2f}")
-    print(flush=True)
+        yield f"{what} | {ours:,} | {nut:,} | {better:.2f}"
 
 
-def print_speed():
+def speed_rows():
     rounds = [[speed(kind) for kind in COMMANDS] for _ in range(ROUNDS)]
-    print_table("a second", [(what, *(int(statistics.median(found[what] for found in of)) for of in zip(*rounds))) for what in rounds[0][0]])
+    return table("a second", [(what, *(int(statistics.median(found[what] for found in of)) for of in zip(*rounds))) for what in rounds[0][0]])
 
 
-def print_instructions():
+def instruction_rows():
     get, got = b"GET VAR small v2048\n", b'VAR small v2048 "xxxxxxxxxx"\n'
-    print_table("instructions", [(what, *(instructions(kind, *words) for kind in COMMANDS)) for what, *words in (
+    return table("instructions", [(what, *(instructions(kind, *words) for kind in COMMANDS)) for what, *words in (
         ("GET VAR, 1 connection", asking(1, get, got), 64, 704, 640),
         ("GET VAR, 64 connections", asking(64, get, got), 2, 12, 640),
         ("an item of LIST VAR", asking(1, b"LIST VAR small\n", b"END LIST VAR small\n"), 1, 3, 2 * 4097),
@@ -278,19 +283,106 @@ def print_instructions():
     )])
 
 
-def print_memory():
-    print_table("KiB", [(what, *(memory(kind, count) for kind in COMMANDS))
-                        for what, count in (("no client", 0), ("60 clients that stop within a listing", 60))])  # fmt: skip
-    print(f"60 clients that stop, while the driver changes all values between one and the next: {memory('ours', 60, changes=True):,} KiB")
+def memory_rows():
+    yield from table("KiB", [(what, *(memory(kind, count) for kind in COMMANDS))
+                             for what, count in (("no client", 0), ("60 clients that stop within a listing", 60))])  # fmt: skip
+    yield f"60 clients that stop, while the driver changes all values between | {memory('ours', 60, changes=True):,} | not measured |"
 
 
-def print_idle():
-    ours, nut = idle()
-    rows = zip(("wakeups", "milliseconds of a processor"), ours, nut)
-    print_table("a minute", [(what, round(a, 1), round(b, 1)) for what, a, b in rows])
+def idle_rows():
+    rows = zip(("wakeups", "milliseconds of a processor"), *idle())
+    return table("a minute", [(what, round(a, 1), round(b, 1)) for what, a, b in rows])
 
 
-print(f"{machine()}.\n")
-PARTS = {"speed": print_speed, "time": print_times, "instructions": print_instructions, "memory": print_memory, "idle": print_idle}
-for part in sys.argv[1:] or PARTS:
-    PARTS[part]()
+# The page, and its pictures.
+
+PAGE = TOP / "docs" / "COSTS.md"
+TABLES = {"machine": machine, "speed": speed_rows, "time": time_rows, "instructions": instruction_rows, "memory": memory_rows, "idle": idle_rows}
+SMALL = ("nothing", "10 clients ask", "LIST VAR of 4,096")
+COLOURS = {"ours": "#0a53a8", "NUT's": "#9a3412"}
+LEFT, WIDE, TALL, TOP_OF = 330, 400, 15, 64
+
+
+def made(kind):
+    """The rows of a table of the page below its head: what, and a text of each server."""
+    rows = re.search(rf"<!-- made: {kind} -->\n(.*?)<!-- end -->", PAGE.read_text(encoding="utf-8"), re.S)[1].splitlines()[2:]
+    return [row.replace("`", "").split(" | ")[:3] for row in rows]
+
+
+def number(text):
+    return float(text.replace(",", ""))
+
+
+def measured():
+    """What the picture shows: of each group the unit, and of each row what it is and a number of each server."""
+    waits = [(what, *(number(of.split("; ")[1]) for of in each)) for what, *each in made("time")]
+    listings = [(what, *map(number, each)) for what, *each in made("speed") if what.startswith("LIST")]
+    return {"From a driver's report to its answer, 99 of 100: microseconds, shorter is better": waits, "Listings a second: longer is better": listings}
+
+
+def bars(what, values, y, least, most):
+    """A row of the picture: its words, and a bar of each server on the logarithmic axis."""
+    yield f'<text x="{LEFT - 10}" y="{y + TALL + 3}" text-anchor="end">{what}</text>'
+    for place, (value, colour) in enumerate(zip(values, COLOURS.values())):
+        length = WIDE * math.log(value / least) / math.log(most / least)
+        top = y + place * TALL
+        yield f'<rect x="{LEFT}" y="{top}" width="{length:.1f}" height="{TALL - 2}" fill="{colour}"/>'
+        yield f'<text x="{LEFT + length + 6:.1f}" y="{top + TALL - 4}">{value:,.0f}</text>'
+
+
+def picture(groups):
+    y, drawn = TOP_OF, []
+    for unit, rows in groups.items():
+        drawn.append(f'<text x="20" y="{y}" class="unit">{unit}</text>')
+        least, most = min(min(of) for _, *of in rows) / 2, max(max(of) for _, *of in rows)
+        y += 12
+        for what, *of in rows:
+            drawn += bars(what, of, y, least, most)
+            y += 2 * TALL + 8
+        y += 30
+    width, high = LEFT + WIDE + 90, y - 20
+    legend = [f'<rect x="{20 + 150 * place}" y="20" width="14" height="14" fill="{colour}"/><text x="{40 + 150 * place}" y="32">{name}</text>'
+              for place, (name, colour) in enumerate(zip(("Voqarchay's upsd", "NUT's upsd"), COLOURS.values()))]  # fmt: skip
+    return "\n".join([
+        f'<svg xmlns="http://www.w3.org/2000/svg" viewBox="0 0 {width} {high}" width="{width}" height="{high}" role="img" aria-labelledby="title">',
+        '<title id="title">What answers take, and listings a second, of this server and NUT\'s; the axes are logarithmic</title>',
+        '<style>text { font-family: "DejaVu Sans", Verdana, sans-serif; font-size: 12px; fill: #1f2328; } .unit { font-weight: bold; }</style>',
+        f'<rect width="{width}" height="{high}" rx="10" fill="#f6f8fa" stroke="#d0d7de"/>', *legend, *drawn, "</svg>\n",
+    ])  # fmt: skip
+
+
+def pictures():
+    groups = measured()
+    small = {unit: [row for row in rows if row[0].startswith(SMALL)] for unit, rows in groups.items()}
+    return {PAGE.parent / "costs.svg": picture(groups), PAGE.parent / "costs-small.svg": picture(small)}
+
+
+def draw():
+    for path, text in pictures().items():
+        path.write_text(text, encoding="utf-8")
+
+
+def write(kind, rows):
+    page, mark = PAGE.read_text(encoding="utf-8"), f"<!-- made: {kind} -->\n"
+    if mark in page:
+        before, _, rest = page.partition(mark)
+        PAGE.write_text(before + mark + rows + rest[rest.index("<!-- end -->") :], encoding="utf-8")
+
+
+def main(words):
+    if "--check" in words:
+        differing = [path.name for path, text in pictures().items() if not path.exists() or path.read_text(encoding="utf-8") != text]
+        return f"costs: {' '.join(differing)}: not of the tables of docs/COSTS.md: tools/costs.py --picture" if differing else 0
+    kinds = [it for it in words if not it.startswith("--")] or TABLES
+    for kind in () if "--picture" in words else kinds:
+        rows = "\n".join(TABLES[kind]()) + "\n"
+        print(rows, flush=True)
+        if "--write" in words:
+            write(kind, rows)
+    if "--write" in words or "--picture" in words:
+        draw()
+    return 0
+
+
+if __name__ == "__main__":
+    sys.exit(main(sys.argv[1:]))

@@ -51,28 +51,35 @@ who_of x = record { client = x.id; user = x.username; address = x.address }
 abbrev pub logout_of : SessionState → Option Note
 logout_of x = option_map (λ u. note_kinds.LoggedOut u (who_of x)) x.login
 
+-- Whether the value of a command is given, and has no bytes.
+abbrev pub is_empty_value : Option (Option (List ℕ)) → Bool
+is_empty_value (Some (Some [])) = true
+is_empty_value _ = false
+
 -- What the session did by a command that was refused by this word, or granted,
-abbrev pub did : SessionState → Option ErrWord → Verb → Option (List ℕ) → Option (List ℕ)
+abbrev pub did : SessionState → Option ErrWord → Verb → Option (List ℕ) → Option (List ℕ) → Bool
     → Option Note
-did x refusal verb ups name =
+did x refusal verb ups name has_empty_value =
     Some
     (note_kinds.Did (record {
       who = who_of x;
       verb = verb;
       ups = ups;
       name = name;
+      has_empty_value = has_empty_value;
       refusal =
           refusal;
     }))
 
 -- where its line was read as a command of which that is noted.
 abbrev pub deed_of : SessionState → Option ErrWord → Result (Option Command) ErrWord → Option Note
-deed_of x refusal (Ok (Some (commands.Login ups))) = did x refusal verbs.Login ups None
-deed_of x refusal (Ok (Some (commands.Primary ups))) = did x refusal verbs.Primary ups None
-deed_of x refusal (Ok (Some (commands.Fsd ups))) = did x refusal verbs.Fsd ups None
-deed_of x refusal (Ok (Some (commands.SetVar ups name value))) = did x refusal verbs.SetVar ups name
+deed_of x refusal (Ok (Some (commands.Login ups))) = did x refusal verbs.Login ups None false
+deed_of x refusal (Ok (Some (commands.Primary ups))) = did x refusal verbs.Primary ups None false
+deed_of x refusal (Ok (Some (commands.Fsd ups))) = did x refusal verbs.Fsd ups None false
+deed_of x refusal (Ok (Some (commands.SetVar ups name value))) =
+    did x refusal verbs.SetVar ups name false
 deed_of x refusal (Ok (Some (commands.InstCmd ups name value))) =
-    did x refusal verbs.InstCmd ups name
+    did x refusal verbs.InstCmd ups name (is_empty_value value)
 deed_of x refusal _ = None
 
 -- What is noted of a change that the session makes, by a line that was read so,

@@ -96,6 +96,9 @@ pub struct Deed {
     pub ups: Option<UpsName>,
     /// The name of the variable or command of an order, none where the word was no lawful name.
     pub name: Option<Name>,
+    /// The value of an `INSTCMD` is given, and has no bytes. Drivers take it for 0, and not for
+    /// none.
+    pub has_empty_value: bool,
     /// Why the line was refused, if it was.
     pub refusal: Option<ErrWord>,
 }

@@ -3,7 +3,7 @@ ghost use Rattle.std.specs.Prelude.{◌≡◌, ◌≤◌, ◌<◌, ℕ, length, 
 ghost use Rattle.std.specs.Option.{option_map};
 ghost use Rattle.std.specs.Io.BufRead.{Rests};
 ghost use Rattle.std.specs.Borrow.{sem};
-ghost use Rattle.nuttracking.specs.Tracking.{nothing_tracked};
+ghost use Rattle.nuttracking.specs.Tracking.{missing_ids, nothing_tracked};
 ghost use Rattle.nutcore.specs.Server.{session, new_server};
 ghost use Rattle.nutcore.specs.Parts.{ups_at};
 ghost use Rattle.nutcore.specs.Ups.{new_ups};
@@ -538,6 +538,13 @@ impl Server {
             Err(IdFault::Known) => Err(Fault::KnownId),
             Err(IdFault::TooMany) => Err(Fault::TooManyIds),
         }
+    }
+
+    /// How many ids may still be handed in, at most 64.
+    pub fn missing_ids(&self) -> usize
+        ensures { result ≡ missing_ids self.now.state.tracking }
+    {
+        self.tracking.missing_ids()
     }
 
     /// One event: what its call above does.

@@ -13,7 +13,7 @@ ghost use Rattle.nutlisting.specs.declared.outbox.TheConstants.{QUEUE_LIMIT};
 ghost use Rattle.nutwords.specs.declared.limits.TheConstants.{LINE_LIMIT};
 ghost use Rattle.nutcore.specs.Calls.{IsOutboxOf, standing_of};
 ghost use Rattle.nutlisting.specs.Counted.{IsCounted, KeepsCount};
-ghost use Rattle.nutcore.specs.Notes.{deed_of, logout_of, who_of};
+ghost use Rattle.nutcore.specs.Notes.{deed_of, is_empty_value, logout_of, who_of};
 ghost use Rattle.nutcore.specs.declared.note.Note.TheVariants.{LoggedIn};
 ghost use Rattle.nutcore.specs.Promises.{IsLineOrNone, IsShort, text_with, change_in, HasNext, with_note, note_in_reply};
 ghost use Rattle.nutcore.specs.Reply.{asker_of, seen_client, changed_session};
@@ -26,7 +26,7 @@ use crate::note::{Deed, Note, Notes, Verb, Who};
 use crate::scratch::Scratch;
 use crate::server::Standing;
 use nutanswer::{Asker, Change, Reply};
-use nutcommand::{Command, ErrWord};
+use nutcommand::{Command, ErrWord, ValueWord};
 use nutio::ByteQueue;
 use nutlisting::{Clients, Outbox};
 use nutusers::{Password, UpsId, UserName};
@@ -324,12 +324,14 @@ impl Session {
     fn note_deed(&self, read: &ReadLine<'_>, refusal: Option<ErrWord>, notes: &mut Notes)
         ensures { notes.new ≡ with_note (deed_of self.now refusal read.now) notes.old }
     {
-        let (verb, ups, name) = match read {
-            Ok(Some(Command::Login(ups))) => (Verb::Login, ups, None),
-            Ok(Some(Command::Primary(ups))) => (Verb::Primary, ups, None),
-            Ok(Some(Command::Fsd(ups))) => (Verb::Fsd, ups, None),
-            Ok(Some(Command::SetVar(ups, name, _))) => (Verb::SetVar, ups, Some(name)),
-            Ok(Some(Command::InstCmd(ups, name, _))) => (Verb::InstCmd, ups, Some(name)),
+        let (verb, ups, name, has_empty_value) = match read {
+            Ok(Some(Command::Login(ups))) => (Verb::Login, ups, None, false),
+            Ok(Some(Command::Primary(ups))) => (Verb::Primary, ups, None, false),
+            Ok(Some(Command::Fsd(ups))) => (Verb::Fsd, ups, None, false),
+            Ok(Some(Command::SetVar(ups, name, _))) => (Verb::SetVar, ups, Some(name), false),
+            Ok(Some(Command::InstCmd(ups, name, value))) => {
+                (Verb::InstCmd, ups, Some(name), is_empty_value(value))
+            }
             _ => return,
         };
         notes.extend(Some(Note::Did(Deed {
@@ -337,6 +339,7 @@ impl Session {
             verb,
             ups: ups.read(),
             name: name.and_then(|name| name.read()),
+            has_empty_value,
             refusal,
         })))
     }
@@ -381,4 +384,12 @@ impl Session {
         let Scratch { line, renders, .. } = scratch;
         self.outbox.take(n, line, renders);
     }
+}
+
+/// Whether the value of a command is given, and has no bytes.
+fn is_empty_value(value: &Option<ValueWord<'_>>) -> bool
+    ensures { result ≡ is_empty_value value.now }
+{
+    let read = value.as_ref().and_then(|value| value.read());
+    read.is_some_and(|value| value.as_bytes().is_empty())
 }

@@ -1,5 +1,5 @@
 -- The available ids and the kept orders, and what each call does to them.
-use Rattle.std.specs.Prelude.{ℕ, ◌^◌, Bool, true, false, ◌==◌, ◌&&◌, ◌||◌, nat_le, nat_lt, List, []}
+use Rattle.std.specs.Prelude.{ℕ, ◌^◌, ◌-◌, Bool, true, false, ◌==◌, ◌&&◌, ◌||◌, nat_le, nat_lt, List, []}
 use Rattle.std.specs.Prelude.{◌∷◌, ◌++◌, Option, Some, None, is_none, length, map, drop, slice_get}
 use Rattle.std.specs.Prelude.{if◌then◌else◌}
 use Rattle.std.specs.List.{find, list_any}
@@ -44,6 +44,10 @@ is_taken_in id t = is_none (id_fault id t) && nat_lt id (2 ^ 128)
 -- An id is handed in: one that is taken in comes after the available ones.
 abbrev pub with_id : ℕ → TrackingState → TrackingState
 with_id id t = if is_taken_in id t then record t { ids = t.ids ++ id ∷ [] } else t
+
+-- How many ids may still be handed in.
+abbrev pub missing_ids : TrackingState → ℕ
+missing_ids t = ID_LIMIT - length t.ids
 
 -- The id that the next order uses.
 abbrev pub next_id : TrackingState → Option ℕ

@@ -1,6 +1,6 @@
 //! The available ids, and the orders that are kept.
 ghost use Rattle.std.specs.Prelude.{◌≡◌, ◌==◌, ◌≤◌, length, IfOk, MatchResult, Some, None, true, false};
-ghost use Rattle.nuttracking.specs.Tracking.{nothing_tracked, next_id, is_known, id_fault, with_id, with_order, is_awaited, with_report, progress_of, has_id, awaits};
+ghost use Rattle.nuttracking.specs.Tracking.{nothing_tracked, missing_ids, next_id, is_known, id_fault, with_id, with_order, is_awaited, with_report, progress_of, has_id, awaits};
 ghost use Rattle.std.specs.List.{list_any, position};
 ghost use Rattle.nuttracking.specs.Sound.{IsSoundTracking, HaveLawfulNumbers};
 
@@ -59,6 +59,13 @@ impl Tracking {
         let ids = HeapCircularBuffer::with_capacity(alloc, ID_LIMIT)?;
         let orders = HeapCircularBuffer::with_capacity(alloc, ORDER_LIMIT)?;
         Ok(Tracking { ids, orders })
+    }
+
+    /// How many ids may still be handed in: 64 less those that are available.
+    pub fn missing_ids(&self) -> usize
+        ensures { result ≡ missing_ids self.now }
+    {
+        ID_LIMIT.saturating_sub(self.ids.len())
     }
 
     /// The id that the next order uses, if one is available.
