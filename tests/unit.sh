@@ -99,15 +99,6 @@ for name in $(grep -o '\<ups_[a-z_]*' "$top/examples/upsd-alerts.yml" | sort -u)
 rule=$(grep -A 5 'alert: NoServer' "$top/examples/upsd-alerts.yml")
 [[ $(grep -o '\<ups_[a-z_]*' <<<"$rule" | sort) == "$(sed -n 's/^\(ups_[a-z_]*\) .*/\1/p' away | sort)" && $rule != *labels.ups* ]] && ok
 
-# Two users, as while systemd starts it: the server is still root's, and may not be signalled.
-serve good
-if [[ $(id -u) == 0 ]]; then
-    MAINPID=$server LISTEN=$address setpriv --reuid 65534 --clear-groups bash -c "$(cat "$top/tools/started")" started && ok
-else
-    echo 'unit: one check is skipped: only root can be two users'
-    ok
-fi
-
 # A forced shutdown that a dead server had is ordered again, of the UPSs that are named, as the first user who may. Nobody else's words
 # count as one, nor a driver's.
 cat >upsd.users <<'USERS'
@@ -124,7 +115,7 @@ asks() {
     printf '%s\n' "$@" LOGOUT >&3
     cat <&3
 }
-again() { MAINPID=$server LISTEN=$address NUT_CONFPATH=$folder/none UPSES=$folder/upses.conf USERS=$folder/upsd.users CREDENTIALS_DIRECTORY=$folder KEPT=$folder/kept "$top/tools/started"; }
+again() { MAINPID=$server LISTEN=$address NUT_CONFPATH=$folder/none UPSES=$folder/upses.conf USERS=$folder/upsd.users KEPT=$folder/kept "$top/tools/started"; }
 cat >kept <<'LINES'
 upsd: good: mon@192.0.2.1 ordered FSD: forced shutdown
 upsd: good: mon@192.0.2.2 ordered FSD: forced shutdown
@@ -153,7 +144,7 @@ printf '[good]\nsocket = %s\n[twin]\nsocket = %s\n[near]\nsocket = run/near\n' "
 mkdir nut
 printf '[good]\n' >nut/ups.conf
 touch -d '+1 hour' nut/upsd.users
-MAINPID=$server LISTEN=$address NUT_CONFPATH=nut UPSES=upses.conf USERS=upsd.users CREDENTIALS_DIRECTORY=. KEPT=kept "$top/tools/started" >said
+MAINPID=$server LISTEN=$address NUT_CONFPATH=nut UPSES=upses.conf USERS=upsd.users KEPT=kept "$top/tools/started" >said
 diff - said <<'SAID' && ok
 <4>upsd: twin: upses.conf: it has the socket of good, whose state it shows
 <4>upsd: near: upses.conf: its socket is no whole path
@@ -166,7 +157,8 @@ judge() {
     UPSES=$folder/upses.conf sh -c "$(sed -n "s/^ExecStartPre=+.bin.sh -c '\(.*users.*\)'$/\1/p" "$top/examples/voqarchay.service" |
         sed -e 's/\$\$/$/g' -e "s|/usr/local/sbin|$top/crates/upsd/out|" -e "s|/etc/voqarchay|$folder|g")" 2>said
 }
-: >upsd.users >cmdvartab
+: >upsd.users
+: >cmdvartab
 judge && rm upses.conf && judge && ok
 echo '[su' >upses.conf
 ! judge && [[ $(head -n 1 said) == "upsd: $folder/upses.conf:1: cause 1" ]] && rm upses.conf && ok
@@ -183,7 +175,8 @@ runs_with() {
     )
     grep -c '^upsd: listening on 127.0.0.1:' said
 }
-: >upses.conf >upsd.users
+: >upses.conf
+: >upsd.users
 [[ $(runs_with MAXAGE=15) == 1 ]] && ok
 [[ $(runs_with TRACKING= OPTIONS='--nut-bytes --listen 127.0.0.1:0') == 2 ]] && ok
 [[ $(runs_with MAXAGE=15.5) == 0 ]] && ok
@@ -231,5 +224,5 @@ if NUT_CONFPATH=. "$top/tools/drill" su@localhost 2>/dev/null; then exit 1; fi
 drilled() { PATH=$folder/bin:$PATH NUT_CONFPATH=. "$top/tools/drill" "$1" | head -n 1; }
 [[ $(drilled rack@localhost) == 'MONITOR drill@localhost 1 monpri "local pass" primary' && $(drilled core) == 'MONITOR drill 1 monsec local_pass secondary' ]] && ok
 [[ $("$top/tools/drill" --help) == 'usage: drill UPS@HOST, as in a MONITOR line of upsmon.conf' ]] && ok
-echo "unit: $checks of 46 checks"
-[[ $checks == 46 ]]
+echo "unit: $checks of 45 checks"
+[[ $checks == 45 ]]
