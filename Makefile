@@ -69,6 +69,7 @@ install:
 	for program in $(CLIENTS); do install crates/$$program/out/$$program$(BUILT) $(ROOT)/bin/$$program || exit 1; done
 	install -m 644 man/*.5 $(ROOT)/share/man/man5
 	install -m 644 man/*.8 $(ROOT)/share/man/man8
+	sed -i '/^\.TH/s/ Voqarchay / "Voqarchay $(VERSION)" /' $(addprefix $(ROOT)/, $(PAGES))
 	install -m 644 $(TEXTS) $(ROOT)/$(DOC)
 	sed -Ei '$(UNLINKED)' $(ROOT)/$(DOC)/*.md
 	for file in $(EXAMPLES) $(UNITS); do \

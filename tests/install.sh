@@ -23,6 +23,7 @@ grep -q "^upsd isn't built: make, make arm64$" "$folder/said" && [[ ! -e $folder
 in_root install
 files >"$folder/first"
 [[ $(wc -l <"$folder/first") -gt 24 ]] && ok
+[[ $(head -qn 1 "$usr"/share/man/man[58]/* | grep -cE "\"Voqarchay $("$usr/bin/upsc" --version | cut -d ' ' -f 2)\" \"UPS server\"$") == $(find man -type f | wc -l) ]] && ok
 grep -q 'ExecStart=/usr/sbin/upsd serve' "$unit" && ok
 "$usr/bin/upsc" --help >"$folder/help" && cmp -s "$folder/help" crates/upsc/stdout && ok
 [[ -f $folder/root$(sed -n 's/^ExecStart=\([^ ]*\) .*/\1/p' "$usr/lib/systemd/system/demodriver@.service") ]] && ok
@@ -102,5 +103,5 @@ for prefix in "$folder/a&b" "$folder/a|b" "$folder/a b" '%h' --help -x; do
 done
 release near/by && [[ $(cat "$folder/work/near/by/lib/systemd/system/voqarchay.service") == "[Service] ExecStart=$folder/work/near/by/sbin/upsd" ]] && ok
 release --remove near/by && [[ -z $(find "$folder/work" -type f) ]] && ok
-echo "install: $checks of 31 checks"
-[[ $checks == 31 ]]
+echo "install: $checks of 32 checks"
+[[ $checks == 32 ]]
