@@ -197,6 +197,14 @@ pause() {
 # The record's drop-in has the unit's own command.
 [[ $(grep '^ExecStart=.' "$top/examples/record.conf") == "$(grep '^ExecStart=' "$top/examples/voqarchay.service") --record "* ]] && ok
 
+# It deletes records of more than 30 days, though the folder is a link.
+mkdir state
+ln -s state upsd
+touch -d '-40 days' state/old
+touch -d '-29 days' state/young
+eval "$(sed -n 's/^ExecStartPre=-\(find .*\)/\1/p' "$top/examples/record.conf" | sed 's|%S|.|')"
+[[ $(ls state) == young ]] && ok
+
 # NUT's server doesn't start while the unit is enabled. No start of NUT's is one of the unit's, or ends it, and the unit's name is none
 # of NUT's: nut-server.service is upsd.service too, from NUT 2.8.1 on.
 [[ $(sed -n 's/^ConditionPathExists=!//p' "$top/examples/unless_upsd.conf") == \
@@ -224,5 +232,5 @@ if NUT_CONFPATH=. "$top/tools/drill" su@localhost 2>/dev/null; then exit 1; fi
 drilled() { PATH=$folder/bin:$PATH NUT_CONFPATH=. "$top/tools/drill" "$1" | head -n 1; }
 [[ $(drilled rack@localhost) == 'MONITOR drill@localhost 1 monpri "local pass" primary' && $(drilled core) == 'MONITOR drill 1 monsec local_pass secondary' ]] && ok
 [[ $("$top/tools/drill" --help) == 'usage: drill UPS@HOST, as in a MONITOR line of upsmon.conf' ]] && ok
-echo "unit: $checks of 45 checks"
-[[ $checks == 45 ]]
+echo "unit: $checks of 46 checks"
+[[ $checks == 46 ]]
