@@ -48,6 +48,12 @@ try:
 test-try:
 	@python3 tools/try.py $(PROGRAMS) demodriver && bash tools/test_try
 
+# Measures anew what docs/COSTS.md has, on an idle machine, and writes it there.
+costs:
+	python3 tools/build.py upsd
+	cd crates/netbench && rt run >/dev/null
+	python3 tools/costs.py --write
+
 # Every proof from nothing, the edits that must fail, the tests, and the scripts of tests/.
 test:
 	@python3 tools/kit.py && bash .ci/run
@@ -100,4 +106,4 @@ release:
 	$(MAKE) all arm64
 	bash tools/release $(VERSION)
 
-.PHONY: all arm64 clean demo try test-try test test-arm64 install uninstall deb release
+.PHONY: all arm64 clean costs demo try test-try test test-arm64 install uninstall deb release

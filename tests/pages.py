@@ -97,7 +97,7 @@ ROOTS = "crates tests docs tools man examples arm64".split()
 IN_CRATES = "src specs proofs args stdout data".split()
 # Of std, of the system and of the kit.
 NOT_OURS = set("""epoll_wait make_contiguous docs/ANSWERS.md
-    --follow-tags --ignore-missing --since --seconds --only --allow-holes --start""".split())
+    --follow-tags --ignore-missing --since --only --allow-holes --start""".split())
 OPTION = re.compile(r"(?<![\w-])--[a-z][a-z-]*")
 MESSAGE = re.compile(r"(?:upsd|upsc|upsrw|upscmd|from_nut|started|metrics|demodriver): (.+)")
 

@@ -38,6 +38,11 @@ def limits_are_those_of_the_sources():
     return each([it[1:] for it in rows], is_limit)
 
 
+def numbers_are_those_of_costs():
+    ours, nut = re.search(r"^60 clients that stop within a listing \| ([\d,]+) \| ([\d,]+) ", text_of("docs/COSTS.md"), re.M).groups()
+    assert f"| {nut} KiB | [{ours} KiB](docs/COSTS.md)" in PAGE
+
+
 def the_kit_is_the_one_that_is_checked():
     assert f"ends in `{re.search('^WANTED = .(.*).$', text_of('tools/kit.py'), re.M)[1]}`" in PAGE
 

@@ -204,7 +204,7 @@ def a_forced_shutdown_is_seen_and_each_order_of_it_logged():
 def read_to_end_of_drops(reading, journal):
     """The lines of a standard error that begins so, up to the one that says how many were dropped."""
     while not re.search(rb"were dropped\r?\n$", journal):
-        assert select.select([reading], [], [], 4)[0], journal[-200:]
+        assert select.select([reading], [], [], 4 * serving.SLOWER)[0], journal[-200:]
         journal += os.read(reading, 1 << 16)
     return journal.decode().splitlines()
 
@@ -228,7 +228,7 @@ def a_standard_error_that_nobody_reads_stops_nothing():
             slowest, begin = max(slowest, worst_wait(good, 1)), time.monotonic()
             lines = read_to_end_of_drops(reading, journal)
             # A pipe takes all that waits at once, a terminal some of it.
-            assert os.isatty(reading) or time.monotonic() - begin < 3, "the lines lag"
+            assert os.isatty(reading) or time.monotonic() - begin < 3 * serving.SLOWER, "the lines lag"
             refused, dropped = sum("refused LOGIN" in line for line in lines), int(lines[-1].split()[1])
             assert "".join(line + "\n" for line in lines[:3]) == COME, lines[:3]
             assert 0 < dropped and asked - 400 <= refused + dropped <= asked + 400, (asked, refused, dropped)
@@ -784,7 +784,7 @@ def a_server_that_is_asked_nothing_does_nothing():
         again = select.select([driver.listener], [], [], 2.5)[0]
         assert not again, "a driver that is there is connected to again"
         worked = server.seconds_of_work() - before
-        assert worked < 0.2, f"it worked {worked:.2f} s"
+        assert worked < 0.2 * serving.SLOWER, f"it worked {worked:.2f} s"
         assert server.descriptors() == opened - 1
 
 
@@ -941,7 +941,7 @@ def nothing_grows():
             traffic(server, driver, good)
         assert comes(lambda: server.descriptors() <= open_before)
         grown = server.kilobytes() - before
-        assert grown <= 256, f"{grown} KB more"
+        assert EMULATED or grown <= 256, f"{grown} KB more"
         logs(server)
 
 

@@ -15,9 +15,10 @@ import tempfile
 import termios
 import time
 
-# Under an emulator (arm64/test) or a checker of memory (tools/test_try), memory and waits are its own: what has to come gets more time.
+# Under an emulator (arm64/test) or a checker of memory (tools/test_try), memory and waits are its own: what has to
+# come gets so many times the time.
 EMULATED = "EMULATED" in os.environ
-SLOWER = 5 if EMULATED else 1
+SLOWER = int(os.environ.get("EMULATED", 1))
 READY = b"DUMPDONE\nDATAOK\n"
 TWO = b'SETINFO ups.status "OL"\nSETINFO battery.charge "100"\n'
 

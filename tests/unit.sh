@@ -170,7 +170,7 @@ runs_with() {
     (
         while read -r variables; do eval "export $variables"; done < <(sed -n 's/^Environment=//p' "$top/examples/voqarchay.service")
         export LISTEN=127.0.0.1:0 UPSES=$folder/upses.conf "$@"
-        eval "timeout 1 $(sed -n 's/^ExecStart=//p' "$top/examples/voqarchay.service" |
+        eval "timeout ${EMULATED:-1} $(sed -n 's/^ExecStart=//p' "$top/examples/voqarchay.service" |
             sed -e "s|/usr/local/sbin|$top/crates/upsd/out|; s|/etc/voqarchay|$folder|; s|%d|$folder|")" >said 2>&1 || true
     )
     grep -c '^upsd: listening on 127.0.0.1:' said

@@ -297,7 +297,7 @@ def idle_rows():
 # The page, and its pictures.
 
 PAGE = TOP / "docs" / "COSTS.md"
-TABLES = {"machine": machine, "speed": speed_rows, "time": time_rows, "instructions": instruction_rows, "memory": memory_rows, "idle": idle_rows}
+TABLES = {"speed": speed_rows, "time": time_rows, "instructions": instruction_rows, "memory": memory_rows, "idle": idle_rows, "machine": machine}
 SMALL = ("nothing", "10 clients ask", "LIST VAR of 4,096")
 COLOURS = {"ours": "#0a53a8", "NUT's": "#9a3412"}
 LEFT, WIDE, TALL, TOP_OF = 330, 400, 15, 64
