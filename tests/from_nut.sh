@@ -206,9 +206,6 @@ if unshare -rm true 2>/dev/null; then
     clients ::ffff:192.0.2.7 127.0.0.1 >>after
     cp ups.conf upsd.users etc
     echo "LISTEN 127.0.0.1 $(cat port)" >etc/upsd.conf
-    "$top/crates/upsd/out/upsd" serve --ups /dev/null --users /dev/null --listen 127.0.0.1:0 >/dev/null &
-    running=$!
-    trap 'kill "$peer" "$running"; rm -r "$folder"' EXIT
     cat >bin/systemctl <<'SH'
 #!/bin/sh
 case $*:$MASKED in
@@ -219,10 +216,15 @@ esac
 SH
     printf '#!/bin/sh\nexit\n' >bin/sleep
     chmod +x bin/*
-    migrates() {
-        # shellcheck disable=SC2016 # that shell's own words
-        MASKED=$1 RUNNING=$running PATH=$folder/bin:$PATH unshare -rm bash -c 'mount --rbind /etc old && mount -t tmpfs none /etc && ln -s "$PWD/old/alternatives" /etc && bash "$1/tools/from_nut" -o all etc' - "$top" >said 2>&1
-    }
+    cat >migrate <<'SH'
+mount --rbind /etc old && mount -t tmpfs none /etc && ln -s "$PWD/old/alternatives" /etc || exit
+"$1/crates/upsd/out/upsd" serve --ups /dev/null --users /dev/null --listen 127.0.0.1:0 >/dev/null 2>&1 &
+export RUNNING=$! status=0
+bash "$1/tools/from_nut" -o all etc || status=$?
+kill "$RUNNING"
+exit "$status"
+SH
+    migrates() { MASKED=$1 PATH=$folder/bin:$PATH unshare -rm bash migrate "$top" >said 2>&1; }
     cp table before
     mkdir old
     ! migrates no && grep -qx 'from_nut: 192.0.2.8 was logged in to su, and hasn.t come back in 20 seconds: journalctl -t upsd' said && [[ $(grep -c 'come back' said) == 1 ]] && ok

@@ -93,7 +93,7 @@ for word in :99999 127.0.0.1:99999 '[::1]x' localhost:abc ''; do
     [[ $status == 2 && ! -s said && $(cat fault) == "metrics: $word: not HOST[:PORT]" ]] && ok
 done
 # Each rule is about what there is.
-for name in $(grep -o '\<ups_[a-z_]*' "$top/examples/upsd-alerts.yml" | sort -u); do grep -q "^$name[ {]" metrics away || echo "alerts: $name"; done | cmp - /dev/null && ok
+for name in $(grep -o '\<ups_[a-z_]*' "$top/examples/upsd-alerts.yml" | sort -u); do grep -q "^${name}[ {]" metrics away || echo "alerts: $name"; done | cmp - /dev/null && ok
 [[ $(grep -A 1 'alert: NearlyFull' "$top/examples/upsd-alerts.yml") == *ups_server_clients* && $(grep -A 1 'alert: ForcedShutdown' "$top/examples/upsd-alerts.yml") == *FSD* ]] && ok
 # The rule for that is about what there is then, and names no UPS.
 rule=$(grep -A 5 'alert: NoServer' "$top/examples/upsd-alerts.yml")
