@@ -6,21 +6,24 @@
 # is known. Given: the program, the word before, the subcommand of upsd, and the UPS that was named.
 _voqarchay_words() {
     case $1:$2 in
-    upsd:--ups | upsd:--users | upsd:--vars | upsd:--ids | upsd:--record) echo FILE ;;
-    upsd:--listen | upsd:--maxage | upsd:--record-limit | upsrw:-[up] | upscmd:-[up] | upsc:--tracked) ;;
+    upsd:--ups | upsd:--users | upsd:--vars | upsd:--ids | upsd:--record | upsrw:--password-file | upscmd:--password-file) echo FILE ;;
+    upsd:--listen | upsd:--idle | upsd:--keep-places | upsd:--maxage | upsd:--record-limit | upsrw:-[up] | upscmd:-[up] | upsc:--tracked) ;;
     upsrw:-s) echo VAR ;;
     upsc:-c | upsc:--attached | upscmd:-l) echo UPS ;;
     upsd:*)
         case $3 in
-        serve) printf '%s\n' --ups --users --vars --ids --listen --maxage --record --record-limit --priorities --nut-bytes -h --help ;;
-        replay) printf '%s\n' --ups --users --vars -h --help FILE ;;
+        serve)
+            printf '%s\n' --ups --users --vars --ids --refill-ids --listen --idle --keep-places --maxage --record --record-limit \
+                --priorities --nut-bytes --explain -h --help
+            ;;
+        replay) printf '%s\n' --ups --users --vars --explain -h --help FILE ;;
         help) printf '%s\n' serve replay ;;
         *) printf '%s\n' serve replay help -h --help -V --version ;;
         esac
         ;;
-    upsc:*) printf '%s\n' -l -L -c --attached --tracked -h --help -V --version "${4:+VAR}" "${4:-UPS}" ;;
-    upsrw:*) printf '%s\n' -s -u -p --track -h --help -V --version UPS ;;
-    upscmd:*) printf '%s\n' -l -u -p --track -h --help -V --version "${4:+CMD}" "${4:-UPS}" ;;
+    upsc:*) printf '%s\n' -l -L -c --attached --tracked --explain -h --help -V --version "${4:+VAR}" "${4:-UPS}" ;;
+    upsrw:*) printf '%s\n' -s -u -p --password-file --track --explain -h --help -V --version UPS ;;
+    upscmd:*) printf '%s\n' -l -u -p --password-file --track --explain -h --help -V --version "${4:+CMD}" "${4:-UPS}" ;;
     esac
 }
 
@@ -43,7 +46,7 @@ _voqarchay() {
     for ((at = 1; at < ${#typed[@]}; at++)); do
         case ${typed[at]} in
         serve | replay | help) subcommand=${subcommand:-${typed[at]}} ;;
-        -[sup]) ((++at)) ;;
+        -[sup] | --password-file) ((++at)) ;;
         -*) ;;
         *) ups=${ups:-${typed[at]}} ;;
         esac
