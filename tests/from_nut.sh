@@ -158,6 +158,8 @@ DESTDIR='' is_refused "^from_nut: refused: NUT's server has 57 connections"
 echo 'LISTEN 127.0.0.1 1' >etc/upsd.conf
 sed -i 's/ && .*/ || true/' bin/ss
 DESTDIR='' PATH=$folder/bin:$PATH from_nut -n all etc >said 2>&1 && grep -qx 'from_nut: no server answers at 127.0.0.1:1: nobody looked whether a UPS is OB or FSD' said && ok
+printf '#!/bin/sh\nexit 1\n' >bin/ss
+DESTDIR='' PATH=$folder/bin:$PATH from_nut -n all etc >said 2>&1 && grep -qx 'from_nut: ss fails: nobody counted the connections' said && ok
 rm etc/upsd.conf
 cat >hosts.allow <<'RULES'
 sshd: ALL
@@ -239,5 +241,5 @@ else
     echo 'from_nut: four checks are skipped: unshare has no rights'
     checks=$((checks + 4))
 fi
-echo "from_nut: $checks of 58 checks"
-[[ $checks == 58 ]]
+echo "from_nut: $checks of 59 checks"
+[[ $checks == 59 ]]
