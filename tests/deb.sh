@@ -63,32 +63,63 @@ cited=$(zcat "$usr"/share/man/man[58]/*.gz | sed -nE 's/^\.BR ([a-z._-]+) \(([58
 wanted=$(cd "$usr/share/man" && printf '%s\n' man?/*.gz upsmon.8.gz | sed 's|.*/||; s/\.gz$//' | sort)
 [[ $cited == "$wanted" ]] && ok
 
-# The package's scripts on a machine with systemd, whose UPS su has that status. What they call is in the file `ran`.
+# The package's scripts on a machine with systemd, whose UPS su has that status at the server's address. What they call is in the file
+# `ran`.
 dpkg-deb -e "$package" "$folder/control"
 install -d "$folder/bin"
+: >"$folder/table"
+python3 "$top/tests/unit_peers.py" table "$folder/table" >"$folder/port" 2>/dev/null &
+peer=$!
+trap 'kill "$peer"; rm -r "$folder"' EXIT
+until [[ -s $folder/port ]]; do sleep 0.05; done
+listen=127.0.0.1:$(cat "$folder/port")
 cat >"$folder/bin/systemctl" <<'SH'
 #!/bin/sh
 echo "$*" >>"$FOLDER/ran"
-[ "$1" != show ] || echo MAXAGE=15 LISTEN=192.0.2.1:3493
+[ "$1" != show ] || case $LISTEN in
+[[]*) echo "\"LISTEN=$LISTEN\" MAXAGE=15 \"OPTIONS=--nut-bytes --listen 192.0.2.1:1\"" ;;
+*) echo "MAXAGE=15 LISTEN=$LISTEN" ;;
+esac
 [ "$1" != is-enabled ] || exec test -e "$FOLDER/nut"
-SH
-cat >"$folder/bin/upsc" <<'SH'
-#!/bin/sh
-[ "$*" != '-l 192.0.2.1:3493' ] || exec echo su
-[ "$*" != 'su@192.0.2.1:3493 ups.status' ] || exec cat "$FOLDER/status"
 SH
 printf '#!/bin/sh\nexit 2\n' >"$folder/bin/getent"
 printf '#!/bin/sh\necho "groupadd $*" >>"$FOLDER/ran"\n' >"$folder/bin/groupadd"
 chmod +x "$folder"/bin/*
+# Runs this script with this word, where a look at the status is answered so.
 script() {
-    echo "$3" >"$folder/status"
+    printf '%s\n' 'LIST UPS|BEGIN LIST UPS\nUPS su "x"\nEND LIST UPS' "GET VAR su ups.status|$3" >"$folder/table"
     : >"$folder/ran"
-    sed -e "s|/usr/lib/voqarchay/upsc|upsc|" -e 's|/run/systemd/system|/|' -e "s|/etc/systemd/system|$folder/system|" "$folder/control/$1" |
-        FOLDER=$folder PATH=$folder/bin:$PATH sh -s "$2" >"$folder/said" 2>&1
+    sed -e 's|/run/systemd/system|/|' -e "s|/etc/systemd/system|$folder/system|" "$folder/control/$1" |
+        FOLDER=$folder LISTEN=${4:-$listen} PATH=$folder/bin:$PATH bash -s "$2" >"$folder/said" 2>&1
 }
+is() { echo "VAR su ups.status \"$1\""; }
 ran() { grep -q "$1" "$folder/ran"; }
-script postinst configure 'OB DISCHRG' && ! ran '^restart' && grep -q 'the UPS su is OB: not restarted' "$folder/said" && ok
-script postinst configure 'OL CHRG' && ran '^restart voqarchay.service$' && ran '^groupadd --system nut$' && [[ ! -s $folder/said ]] && ok
+# What keeps the server: a status, another answer, none, and no server. At IPv6 addresses as well.
+while IFS='|' read -r at answer said; do
+    if script postinst configure "$answer" "$at" && ! ran '^restart' && grep -qxF "voqarchay: $said: not restarted. The old server runs on, until systemctl restart voqarchay" "$folder/said"; then
+        ok
+    else
+        cat "$folder/said"
+    fi
+done <<CASES
+$listen|$(is 'OB DISCHRG')|the UPS su is OB
+$listen|$(is 'FSD OB LB')|the UPS su is OB
+$listen|$(is FSD)|the UPS su is FSD
+$listen|ERR DATA-STALE|nobody knows the state of the UPS su, ERR DATA-STALE
+$listen|ERR DRIVER-NOT-CONNECTED|nobody knows the state of the UPS su, ERR DRIVER-NOT-CONNECTED
+$listen|$(is '')|nobody knows the state of the UPS su, $(is '')
+$listen||nobody knows the state of the UPS su, no answer
+127.0.0.1:1|$(is OL)|no answer from 127.0.0.1:1
+[::]:${listen##*:}|$(is OB)|the UPS su is OB
+CASES
+for at in "$listen" "[::]:${listen##*:}" "[::1]:${listen##*:}"; do
+    script postinst configure "$(is 'OL CHRG')" "$at" && ran '^restart voqarchay.service$' && ran '^groupadd --system nut$' && [[ ! -s $folder/said ]] && ok
+done
+# The power is back: the restart is what ends the forced shutdown.
+for status in 'FSD OL' 'OL FSD' 'FSD OL CHRG'; do
+    script postinst configure "$(is "$status")" && ran '^restart voqarchay.service$' &&
+        [[ $(cat "$folder/said") == 'voqarchay: the UPS su is FSD OL: the power is back, and this ends its forced shutdown' ]] && ok
+done
 # The unit of a package before 1.0.0 is enabled, and has settings.
 older() {
     rm -rf "$folder/system"
@@ -98,14 +129,14 @@ older() {
 }
 is_taken_over() { ran '^enable voqarchay.service$' && [[ $(cd "$folder/system" && find . -not -type d) == ./voqarchay.service.d/from_nut.conf ]]; }
 older
-script postinst configure OL && is_taken_over && ran '^stop upsd.service$' && ran '^restart voqarchay.service$' && ok
+script postinst configure "$(is OL)" && is_taken_over && ran '^stop upsd.service$' && ran '^restart voqarchay.service$' && ok
 older
-script postinst configure OB && is_taken_over && ! ran '^stop\|^restart' && grep -q 'until systemctl stop upsd, systemctl start voqarchay$' "$folder/said" && ok
-if script prerm remove 'FSD OL'; then exit 1; fi
+script postinst configure "$(is OB)" && is_taken_over && ! ran '^stop\|^restart' && grep -q 'until systemctl stop upsd, systemctl start voqarchay$' "$folder/said" && ok
+if script prerm remove "$(is FSD)"; then exit 1; fi
 ! ran disable && grep -q 'the UPS su is FSD: not removed' "$folder/said" && ok
-script prerm remove OL && ran '^disable --now voqarchay.service$' && ran '^stop demodriver@\*.service$' && grep -q 'nobody serves' "$folder/said" && ! ran '^start' && ok
+script prerm remove "$(is OL)" && ran '^disable --now voqarchay.service$' && ran '^stop demodriver@\*.service$' && grep -q 'nobody serves' "$folder/said" && ! ran '^start' && ok
 touch "$folder/nut"
-script prerm remove OL && ran '^start nut-server.service$' && grep -q "NUT's server serves" "$folder/said" && ok
+script prerm remove "$(is OL)" && ran '^start nut-server.service$' && grep -q "NUT's server serves" "$folder/said" && ok
 if [[ -n $(type -P lintian) ]]; then
     lintian --allow-root --fail-on error "$package" >"$folder/said" 2>&1 && ok || grep '^E' "$folder/said"
 else
@@ -123,5 +154,5 @@ dpkg_there -r voqarchay >"$folder/said" 2>&1 || cat "$folder/said"
 dpkg_there --purge voqarchay >"$folder/said" 2>&1 || cat "$folder/said"
 [[ -z $(left) ]] && ok
 [[ $(mine) == "$before" ]] && ok
-echo "deb: $checks of 28 checks"
-[[ $checks == 28 ]]
+echo "deb: $checks of 41 checks"
+[[ $checks == 41 ]]

@@ -88,5 +88,20 @@ grep -q "usr/bin/upsc isn't of this package" "$folder/said" && ok
 [[ $(files) == "$usr/bin/upsc" ]] && ok
 in_root uninstall
 [[ $(cat "$usr/bin/upsc") == NUT ]] && ok
-echo "install: $checks of 24 checks"
-[[ $checks == 24 ]]
+
+# What stands in a release: below a PREFIX as it was meant, or nowhere.
+mkdir -p "$folder"/release/{sbin,share/voqarchay,lib/systemd/system} "$folder/work"
+cp tools/install "$folder/release"
+echo '[Service] ExecStart=/usr/local/sbin/upsd' >"$folder/release/lib/systemd/system/voqarchay.service"
+touch "$folder"/release/{sbin/upsd,share/voqarchay/started}
+printf '%s\n' sbin/upsd share/voqarchay/started lib/systemd/system/voqarchay.service >"$folder/release/share/voqarchay/installed"
+release() { (cd "$folder/work" && ../release/install "$@" >"$folder/said" 2>&1); }
+for prefix in "$folder/a&b" "$folder/a|b" "$folder/a b" '%h' --help -x; do
+    status=0
+    release "$prefix" || status=$?
+    [[ $status == 2 && $(wc -l <"$folder/said") == 1 && -z $(find "$folder/work" "$folder"/a* -type f 2>/dev/null) ]] && ok
+done
+release near/by && [[ $(cat "$folder/work/near/by/lib/systemd/system/voqarchay.service") == "[Service] ExecStart=$folder/work/near/by/sbin/upsd" ]] && ok
+release --remove near/by && [[ -z $(find "$folder/work" -type f) ]] && ok
+echo "install: $checks of 32 checks"
+[[ $checks == 32 ]]

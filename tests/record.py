@@ -202,4 +202,25 @@ def a_masked_record_replays():
     assert (ended.returncode, ended.stderr) == (2, "usage: mask USERS RECORD [VALUE..]\n"), ended
 
 
+WORDS = [b"upsmon", b"primary", b"password", b"actions", b"SET", b"su", b"LOGIN", b"mon", b"OK", b"aaaaaaaa", b"a"]
+
+
+def a_password_that_is_a_word_is_masked():
+    """As the password of the file and of the session; where it is another word, both stay what they are, and the replay too."""
+    for number, word in enumerate(WORDS):
+        users = BENCH.file(f"users-{number}", b"[mon]\npassword = %s\nactions = SET\nupsmon primary\n" % word)
+        typed = b"USERNAME mon\nPASSWORD %s\nLOGIN su\nSET VAR su x 1\nGET VAR su ups.status\nBAD %s\n" % (word, word)
+        record = BENCH.file(f"record-{number}", b"up su\ndriver-hex su %s\nopen 192.0.2.1\nclient-hex 1 %s\ntook 1 all\n" % ((TWO + READY).hex().encode(), typed.hex().encode()))
+        ended = subprocess.run([f"{HERE}/../tools/mask", users, record], capture_output=True, text=True, check=True)
+        staying = word in WORDS[4:8]
+        assert ended.stderr == f"mask: {users}:2: this password stays where it is a word of the record: change it\n" * staying, (word, ended.stderr)
+        printed = BENCH.ends("replay", "--users", users, record)
+        assert printed[0] == 0 and printed[1].count(b"OK\n") >= 3, printed
+        assert BENCH.ends("replay", "--users", f"{users}.masked", f"{record}.masked") == printed, word
+        masked, sent_line = content(f"users-{number}.masked"), content(f"record-{number}.masked").split(b"\n")[3]
+        text = bytes.fromhex(sent_line.split(b" ")[2].decode())
+        assert b"password = %s\n" % word not in masked and masked.startswith(b"[mon]\npassword = "), masked
+        assert b"PASSWORD %s\n" % word not in text and (b"BAD %s\n" % word in text) == staying, text
+
+
 BENCH.run(globals(), *sys.argv[1:])

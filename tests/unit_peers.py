@@ -1,7 +1,9 @@
-"""What unit.sh has beside the server. By its one word:
+"""What the scripts have beside the server. By its words:
 
 good, stale     a driver at the socket of that name, whose data come after a second, or don't come
-short, endless  an odd server at a port of 127.0.0.1, which it prints; its UPS has a quote in its name, and its last answer ends or not"""
+short, endless  an odd server at a port of 127.0.0.1, which it prints; its UPS has a quote in its name, and its last answer ends or not
+table FILE      a server at a port of 127.0.0.1 and ::1, which it prints. FILE, as it is when a line comes, has its answer: LINE|ANSWER,
+                with \\n between lines. It ends the connection at an empty answer, and knows no other line"""
 import socket
 import socketserver
 import sys
@@ -37,11 +39,38 @@ def answer(is_endless):
             client.sendall(b"x" * 1000)
 
 
-def main(word):
+class Asked(socketserver.StreamRequestHandler):
+    """A client of the server with a table."""
+
+    def handle(self):
+        for line in self.rfile:
+            with open(self.server.table, encoding="ascii") as table:
+                answers = dict(row.rstrip("\n").split("|") for row in table)
+            said = answers.get(line.decode().rstrip("\n"), "ERR UNKNOWN-COMMAND")
+            if not said:
+                break
+            self.wfile.write(said.replace("\\n", "\n").encode() + b"\n")
+
+
+class Table(socketserver.ThreadingTCPServer):
+    address_family = socket.AF_INET6
+    daemon_threads = True
+
+    def server_bind(self):
+        self.socket.setsockopt(socket.IPPROTO_IPV6, socket.IPV6_V6ONLY, 0)
+        super().server_bind()
+
+
+def main(word, table=None):
     if word in ("good", "stale"):
         socketserver.ThreadingUnixStreamServer(word, Driver).serve_forever()
+    if word == "table":
+        server = Table(("::", 0), Asked)
+        server.table = table
+        print(server.server_address[1], flush=True)
+        server.serve_forever()
     answer(word == "endless")
 
 
 if __name__ == "__main__":
-    main(sys.argv[1])
+    main(*sys.argv[1:])

@@ -7,12 +7,15 @@
 _voqarchay_words() {
     case $1:$2 in
     upsd:--ups | upsd:--users | upsd:--vars | upsd:--ids | upsd:--record | upsrw:--password-file | upscmd:--password-file) echo FILE ;;
-    upsd:--listen | upsd:--maxage | upsd:--record-limit | upsrw:-[up] | upscmd:-[up] | upsc:--tracked) ;;
+    upsd:--listen | upsd:--idle | upsd:--keep-places | upsd:--maxage | upsd:--record-limit | upsrw:-[up] | upscmd:-[up] | upsc:--tracked) ;;
     upsrw:-s) echo VAR ;;
     upsc:-c | upsc:--attached | upscmd:-l) echo UPS ;;
     upsd:*)
         case $3 in
-        serve) printf '%s\n' --ups --users --vars --ids --listen --maxage --record --record-limit --priorities --nut-bytes --explain -h --help ;;
+        serve)
+            printf '%s\n' --ups --users --vars --ids --refill-ids --listen --idle --keep-places --maxage --record --record-limit \
+                --priorities --nut-bytes --explain -h --help
+            ;;
         replay) printf '%s\n' --ups --users --vars --explain -h --help FILE ;;
         help) printf '%s\n' serve replay ;;
         *) printf '%s\n' serve replay help -h --help -V --version ;;
