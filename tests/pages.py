@@ -38,7 +38,7 @@ MESSAGES = [
     ("crates/upsd/src/warnings.rt", r'format_args!\("([a-z].*)"\);', r"warning: PATH: \1"),
     ("crates/upsd/src/warnings.rt", r'(?:format_args!\("\[\{\}\]: |^ *note\([a-z]+, ")([^"]*)"\)?[,;)].*$', r"warning: PATH: [NAME]: \1"),
     *((path, r'"(.*)"\)?;\n.*, None, &line\);', r"\1") for path in ("crates/nutjournal/src/log_buffer.rt", JOURNAL)),
-    (JOURNAL, r'None, &format_args!\("([a-z].*)"\)\);', r"\1"),
+    (JOURNAL, r'None,\s+&format_args!\("([a-z].*)"\),?\s*\);', r"\1"),
     (JOURNAL, r'^ *"(\{taken\}.*)"$', r"\1"),
     (JOURNAL, r'(?<!None, &)format_args!\("([a-z].*)"\)(?:\);|;\n.*, (?:ups|name\(u\)), &line\);)', r"su: \1"),
     ("crates/nutjournal/src/tally.rt", r'^    \("(d(?:ata|river) .*)", [A-Z]+, [A-Z_]+\),', r"su: \1"),
