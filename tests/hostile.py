@@ -10,10 +10,10 @@ import time
 
 from plain_server import LINE, QUEUE, VALUE, quoted
 from replaying import Bench, built, cases
-from serving import TWO, Driver, Server, comes, pouring
+from serving import EMULATED, TWO, Driver, Server, comes, pouring
 
 BENCH = Bench("hostile", *built("upsd"))
-RUNS, IN_A_SCRIPT = 10_000, 250
+RUNS, IN_A_SCRIPT = 2_500 if EMULATED else 10_000, 250
 FILES = next(files for title, _, files in cases("scripts/refused.cases") if title == "the files of the random pieces")
 
 NAMES = [b"a", b"b", b"ups.status", b"test.start"] * 6 + [b"nope", b"A", b"x/y", b"", b"n" * 64, b"n" * 65]
