@@ -274,7 +274,7 @@ def of_a_flood_each_line_is_logged_or_counted():
              ("status OB", "status with OB or LB", 100), ("status OL", "status", 101)),
             (lambda server, driver, good: driver.send(b"DATASTALE\nDATAOK\n" * 100), ("data stale", "data stale", 100), ("data good", "data good", 101)),
             (lambda server, *_: log_in_and_out(server), ("mon@127.0.0.1 logged in", "logged in", 100), ("mon@127.0.0.1 logged out: " + BY_ITSELF, "logged out", 100)),
-            (lambda server, *_: guess(server), ("mon@127.0.0.1 was refused LOGIN: ACCESS-DENIED", "refused LOGIN", 800))]:
+            (lambda server, *_: guess(server), ("mon@127.0.0.1 was refused LOGIN: ACCESS-DENIED", "denied LOGIN or rights", 800))]:
         with served() as (server, driver, good):
             begin = time.monotonic()
             flood(server, driver, good)
@@ -610,9 +610,9 @@ def a_terminal_that_the_server_may_not_open_is_named():
 
 def sent_away(server):
     """How many clients the journal says were sent away. It says so once a minute."""
-    lines = server.journal()[len(COME):].splitlines()
-    assert len(lines) <= 2 and all(line.startswith("upsd: sent away: 127.0.0.1: ") for line in lines), lines
-    return sum(int(line.split()[-1]) for line in lines)
+    lines = re.findall(r"^upsd: sent away: 127[.]0[.]0[.]1: (\d+)$", server.journal(), re.M)
+    assert len(lines) <= 2, server.journal()
+    return sum(map(int, lines))
 
 
 def stolen():
@@ -767,7 +767,7 @@ def of_more_than_64_clients_that_left_the_oldest_are_closed():
             assert clients[-1].ask(b"LOGOUT\n") == b"OK Goodbye\n"
         clients.append(server.client())
         clients[-1].send(b"LOGOUT\n" + b"VER\n" * 20_000)
-        time.sleep(0.2 * serving.SLOWER)
+        time.sleep(min(1, 0.2 * serving.SLOWER))  # they are closed after two seconds
         assert server.descriptors() <= before + 64
         assert clients[-1].up_to_end() == b"OK Goodbye\n"
         for client in clients[:-1]:

@@ -79,7 +79,7 @@ static KINDS: [(&str, u8, u64); KIND_COUNT] = [
     ("forced shutdowns", CRITICAL, LINE_LIMIT),
     ("refused LOGIN", INFO, PLAIN_LIMIT),
     ("refused orders", INFO, PLAIN_LIMIT),
-    ("denied LOGIN, PRIMARY or FSD", WARNING, PLAIN_LIMIT),
+    ("denied LOGIN or rights", WARNING, PLAIN_LIMIT),
     ("orders with an empty value", WARNING, ALARM_LIMIT),
     ("silent and closed", INFO, PLAIN_LIMIT),
     ("gave way", WARNING, PLAIN_LIMIT),
