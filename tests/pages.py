@@ -198,7 +198,7 @@ def missing(page, text, names):
 # All of docs/ but what tools/proved makes of the laws.
 ALL_WORDS, TELLING, CELL = 21_000, 0, 60
 MADE = "docs/LAWS.md"
-SIZES = {"README.md": 800, "docs/COSTS.md": 1050, "docs/ARCHITECTURE.md": 3700, "docs/CONTRIBUTING.md": 2700, "docs/PROVED.md": 1750,
+SIZES = {"README.md": 800, "docs/COSTS.md": 1050, "docs/ARCHITECTURE.md": 3700, "docs/CONTRIBUTING.md": 2700, "docs/PROVED.md": 1800,
          "docs/DECISIONS.md": 1150, "docs/INTEROP.md": 1800, "docs/PROTOCOL.md": 3150, "docs/OPERATING.md": 3600, MADE: 5000}  # fmt: skip
 TELLS = re.compile(r"\b(?:tells?|told)\b", re.I)
 

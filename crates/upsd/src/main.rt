@@ -88,11 +88,11 @@ static SERVE_WORDS: [Word; 13] = words! {
         "Source of order ids: /dev/urandom [without it: none]";
     "refill-ids": LongFlag, Free,
         "Each second as many ids as are missing, not one";
-    "listen": Presets("A:P", DEFAULT_ADDRESS), Free, "IP address and port, up to 8 times";
+    "listen": Presets("A:P", DEFAULT_ADDRESS), Free, "IP address, port; up to 8";
     "idle": Parsed("S", ValueParser::Unsigned(IDLE_LEAST, IDLE_MOST)), Free,
-        "End clients that are silent for S seconds [without it: none]";
+        "End clients silent for S seconds [without it: none]";
     "keep-places": Parsed("N", ValueParser::Unsigned(0, KEPT_PLACES_MOST)), Free,
-        "Keep N places for clients of this machine [without it: 0]";
+        "Places kept for this machine [without it: 0]";
     "maxage": Parsed("N", ValueParser::Unsigned(MAX_AGE_LEAST as u64, MAX_AGE_MOST as u64)), Free,
         "Stale after N seconds of silence [without it: 15]";
     "record": LongOption("F"), Free,
