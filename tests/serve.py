@@ -553,7 +553,8 @@ def a_driver_that_comes_and_goes_is_logged_once_a_minute():
     assert comes(lambda: "more lines" in RESTLESS.journal(), 62), RESTLESS.journal()
     came, logged = len(COMINGS), lines()
     assert logged[:11] == wanted and logged[11].startswith("upsd: su: more lines: ") and "; now d" in logged[11], logged
-    assert all(came - 2 <= sum(parts_of(RESTLESS, line, line)) <= came for line in (*NEWS[::2], "driver lost")), (came, logged)
+    # One may have come whom the journal has, and COMINGS not yet.
+    assert all(came - 2 <= sum(parts_of(RESTLESS, line, line)) <= came + 1 for line in (*NEWS[::2], "driver lost")), (came, logged)
     assert comes(lambda: lines()[12:].count("upsd: su: driver lost") == 2), lines()
     assert comes(lambda: STALE, 30) and GREATER_AGE <= STALE[0] <= GREATER_AGE + 5, STALE
     RESTLESS.close()
