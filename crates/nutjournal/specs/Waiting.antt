@@ -1,6 +1,6 @@
 -- What is still to be logged, for which the journal asks to be called in the next second.
 use Rattle.std.specs.Prelude.{◌≡◌, ℕ, Bool, true, false, List, [], ◌∷◌, ◌||◌, not, if◌then◌else◌}
-use Rattle.std.specs.Prelude.{is_some}
+use Rattle.std.specs.Prelude.{is_none, is_some, ◌&&◌}
 use Rattle.std.specs.Prelude.{take}
 use Rattle.std.specs.List.{list_any}
 use Rattle.nutjournal.specs.Refusals.{is_any_refusal_behind}
@@ -20,6 +20,10 @@ holds count j =
 -- Then it asks for more.
 abbrev pub AsksForMore : ℕ → Journal → Type 0
 AsksForMore count j = holds count j ≡ true → j.has_more ≡ true
+
+-- Nobody left or was sent away in the last turn.
+abbrev pub are_none : Doings → Bool
+are_none doings = is_none doings.left && is_none doings.sent_away
 
 -- One of these counts is more than what was logged of it,
 abbrev pub is_one_behind : List ℕ → List Count → Bool

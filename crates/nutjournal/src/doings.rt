@@ -1,4 +1,7 @@
 //! What the sockets did that no note of the server says.
+ghost use Rattle.std.specs.Prelude.{◌≡◌};
+ghost use Rattle.nutjournal.specs.Waiting.{are_none};
+
 use nutwords::Address;
 
 /// So many places are taken where it is logged who has them: three quarters.
@@ -32,7 +35,9 @@ pub struct Doings<'a> {
 
 impl Doings<'_> {
     /// Nobody left or was sent away in the last turn.
-    pub fn are_none(&self) -> bool {
+    pub fn are_none(&self) -> bool
+        ensures { result ≡ are_none self.now }
+    {
         self.left.is_none() && self.sent_away.is_none()
     }
 }

@@ -1,8 +1,8 @@
 //! The journal of the UPSs and their clients while they are served.
-ghost use Rattle.std.specs.Prelude.{◌≡◌, ◌≢◌, ◌≤◌, ◌||◌, [], length, true, IfOk, Some};
+ghost use Rattle.std.specs.Prelude.{◌≡◌, ◌≢◌, ◌≤◌, ◌||◌, [], length, false, true, IfOk, Some};
 ghost use Rattle.nutjournal.specs.Tally.{begins_minute};
 ghost use Rattle.nutjournal.specs.Tallies.{LeadsTo, after_second_of};
-ghost use Rattle.nutjournal.specs.Waiting.{AsksForMore, are_behind, holds};
+ghost use Rattle.nutjournal.specs.Waiting.{AsksForMore, are_behind, are_none, holds};
 
 use crate::doings::{Crowd, Doings, Leave};
 use crate::drivers::{Driver, Drivers, is_any_awaited};
@@ -98,6 +98,7 @@ impl Journal {
         requires crowds { C.IsAlwaysCallable crowd }
         ensures moment { self.new.moment ≡ Some server.now.state.moment }
         ensures noted { server.now.notes ≢ [] → self.new.has_more ≡ true }
+        ensures done { are_none doings.entry ≡ false → self.new.has_more ≡ true }
         ensures held { AsksForMore (length server.now.state.list) self.old
             → AsksForMore (length server.now.state.list) self.new }
         ensures more { result
@@ -126,7 +127,8 @@ impl Journal {
         }
         self.log_doings(doings);
         self.log.flush(rt);
-        self.has_more = !server.notes().is_empty() || self.holds(server.ups().len());
+        let is_new = !server.notes().is_empty() || !doings.are_none();
+        self.has_more = is_new || self.holds(server.ups().len());
         self.has_more || self.is_behind(doings)
     }
 
