@@ -634,7 +634,7 @@ def worst_wait(client, count):
 
 
 def nobody_waits_for_slow_readers():
-    with served(many(MANY, 256)) as (server, _, good):
+    with served(many(MANY, 256), "--maxage", "86400") as (server, _, good):
         before = server.kilobytes("VmData")  # 1,100 of it are room for the notes of one event, touched only by what is noted.
         assert EMULATED or before < 3500, f"{before} KB for {MANY} values of 256 bytes"
         slow = [server.client() for _ in range(63)]
@@ -892,7 +892,7 @@ def a_driver_with_orders_at_each_moment_is_heard():
 def nobody_waits_long_beside_busy_clients_and_drivers():
     drivers = [Driver(path(f"{ups}.sock")) for ups in ("su", "sv")]
     ups = file("two.conf", "".join(f"[{driver.path[-7:-5]}]\nsocket = {driver.path}\n" for driver in drivers))
-    with begun(ups, "--users", path("users"), "--maxage", "3") as server:
+    with begun(ups, "--users", path("users"), "--maxage", str(3 * serving.SLOWER)) as server:
         for driver in drivers:
             driver.accept(TWO)
         clients = [server.client() for _ in range(64)]
