@@ -15,7 +15,7 @@ import time
 from typing import NamedTuple
 
 import serving
-from replaying import HERE, Bench, built, plain, sections, terminal_ends, text_of
+from replaying import HERE, Bench, built, plain, sections, terminal_ends, text_of, written_to
 
 PROGRAMS = {os.path.basename(program): program for program in built("upsc", "upsrw", "upscmd")}
 BENCH = Bench("clients", PROGRAMS["upsc"])
@@ -353,9 +353,7 @@ def check_terminal(rows):
         reading, terminal = terminal_ends()
         child = start(row.words, {"LEAD_TO": str(PEER.port)}, stdout=terminal)
         assert PEER.meet(row.reply, row.ending, child) == row.sent
-        assert (child.wait(60), got := os.read(reading, 4096)) == (0, shown + b"\n"), got
-        for end in reading, terminal:
-            os.close(end)
+        assert (child.wait(60), got := written_to(reading, terminal)) == (0, shown + b"\n"), got
     return f"{len(rows)} rows"
 
 
@@ -448,9 +446,7 @@ def check_explained(rows):
             if reply is not None:
                 PEER.meet(reply, ENDS, child)
             child.communicate(timeout=PATIENCE)
-            assert (got := os.read(reading, 4096)) == reported(words, *lines), f"{words}: {got}"
-            for end in reading, writing:
-                os.close(end)
+            assert (got := written_to(reading, writing)) == reported(words, *lines), f"{words}: {got}"
     return f"{len(rows)} faults"
 
 

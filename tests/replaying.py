@@ -1,4 +1,5 @@
 """Runs of a built program, most of them of `upsd replay`, and the line that is printed a case."""
+import contextlib
 import inspect
 import os
 import re
@@ -167,15 +168,22 @@ def terminal_ends():
     return reading, terminal
 
 
+def written_to(reading, writing):
+    """All that was written to a pipe or a terminal, both of whose ends are closed."""
+    os.close(writing)
+    text = b""
+    with contextlib.suppress(OSError):  # of a terminal that nobody has open
+        while piece := os.read(reading, 1 << 16):
+            text += piece
+    os.close(reading)
+    return text
+
+
 def ends_on_a_terminal(*words, **more):
     """How a program ends whose standard error is a terminal: its status, and what is shown there."""
     reading, terminal = terminal_ends()
     ended = subprocess.run(words, stdin=subprocess.DEVNULL, stdout=subprocess.DEVNULL, stderr=terminal, timeout=60, check=False, **more)
-    os.set_blocking(reading, False)
-    shown = os.read(reading, 1 << 16) if ended.returncode else b""
-    for end in reading, terminal:
-        os.close(end)
-    return ended.returncode, shown
+    return ended.returncode, written_to(reading, terminal)
 
 
 def each(rows, check):
