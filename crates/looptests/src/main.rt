@@ -49,7 +49,7 @@ fn fail_each(rt: &HostRuntime, rows: &[Row], as_ever: &Ran) -> Result<()> {
 /// The run in which nothing fails. Its driver ends in the middle of a line, after one line that is
 /// refused.
 fn print_as_ever(rt: &HostRuntime, ran: &Ran) -> Result<()> {
-    let failed = ran.sockets.failures();
+    let failed = ran.served.sockets.failures();
     println!(rt; "nothing fails: {failed} failed calls")?;
     let first = count_taken(rt, ran, 1)?;
     let second = count_taken(rt, ran, 2)?;
@@ -59,14 +59,14 @@ fn print_as_ever(rt: &HostRuntime, ran: &Ran) -> Result<()> {
 
 /// How many bytes the client takes.
 fn count_taken(rt: &HostRuntime, ran: &Ran, client: ClientId) -> Result<usize> {
-    Ok(bytes_taken(rt.alloc(), &ran.sockets, Peer::Client(client))?.len())
+    Ok(bytes_taken(rt.alloc(), &ran.served.sockets, Peer::Client(client))?.len())
 }
 
 /// What is known of the driver at the end.
 fn print_end_of_driver(rt: &HostRuntime, ran: &Ran) -> Result<()> {
-    let down = yes(ran.server.driver_connected(SU) == Ok(false));
-    let faulty = ran.server.driver_faults(SU)?;
-    let shut = shuts(&ran.sockets, Peer::Driver(SU));
+    let down = yes(ran.served.server.driver_connected(SU) == Ok(false));
+    let faulty = ran.served.server.driver_faults(SU)?;
+    let shut = shuts(&ran.served.sockets, Peer::Driver(SU));
     println!(rt;
         "the driver ends in the middle of a line: down: {down}, shut: {shut}, refused lines: {faulty}"
     )?;
@@ -122,9 +122,9 @@ fn print_answer(
 
 /// The turn's fault, and whether the server and its peers went on as if nothing had failed.
 fn print_fault(rt: &HostRuntime, ran: &Ran, as_ever: &Ran) -> Result<()> {
-    let failed = ran.sockets.failures();
-    let same = other_calls(rt.alloc(), &ran.sockets)? == other_calls(rt.alloc(), &as_ever.sockets)?
-        && ran.record.text() == as_ever.record.text();
+    let failed = ran.served.sockets.failures();
+    let same = other_calls(rt.alloc(), &ran.served.sockets)? == other_calls(rt.alloc(), &as_ever.served.sockets)?
+        && ran.served.recorder.text() == as_ever.served.recorder.text();
     let number = ran.faults.first().map_or(0, |fault| fault.number());
     let same = yes(same && ran.faults.len() == 1);
     println!(rt; "{failed} failed call, fault {number}, all other turns as ever: {same}")?;
@@ -135,16 +135,16 @@ fn print_fault(rt: &HostRuntime, ran: &Ran, as_ever: &Ran) -> Result<()> {
 fn print_loss(rt: &HostRuntime, p: Peer, ran: &Ran, as_ever: &Ran) -> Result<()> {
     match p {
         Peer::Client(c) => {
-            let gone = ran.server.offered(c).is_err();
+            let gone = ran.served.server.offered(c).is_err();
             print!(rt; "client {c} fails: ")?;
             print_shut(rt, p, gone, ran)?;
             let other = Peer::Client(if c == 1 { 2 } else { 1 });
-            let taken = bytes_taken(rt.alloc(), &ran.sockets, other)?;
-            let same = yes(taken == bytes_taken(rt.alloc(), &as_ever.sockets, other)?);
+            let taken = bytes_taken(rt.alloc(), &ran.served.sockets, other)?;
+            let same = yes(taken == bytes_taken(rt.alloc(), &as_ever.served.sockets, other)?);
             println!(rt; ", the other client as ever: {same}")?;
         }
         Peer::Driver(u) => {
-            let down = ran.server.driver_connected(u) == Ok(false);
+            let down = ran.served.server.driver_connected(u) == Ok(false);
             print!(rt; "the driver fails: ")?;
             print_shut(rt, p, down, ran)?;
             println!(rt;)?;
@@ -155,10 +155,10 @@ fn print_loss(rt: &HostRuntime, p: Peer, ran: &Ran, as_ever: &Ran) -> Result<()>
 
 /// What became of a peer of which a call failed.
 fn print_shut(rt: &HostRuntime, p: Peer, is_gone: bool, ran: &Ran) -> Result<()> {
-    let failed = ran.sockets.failures();
+    let failed = ran.served.sockets.failures();
     let is_ok = yes(ran.faults.is_empty());
     let at_once = yes(ran.shut_behind == Some(p));
-    let shut = shuts(&ran.sockets, p);
+    let shut = shuts(&ran.served.sockets, p);
     let gone = yes(is_gone);
     print!(rt;
         "{failed} failed call, turns Ok: {is_ok}, shut at once: {at_once}, shut: {shut}, gone: {gone}"

@@ -4,7 +4,7 @@ use crate::rows::{Reply, Row, peer_of};
 use crate::scripted::{Act, Scripted};
 use anyhow::{Error, Result};
 use nutcore::{Descriptions, MAX_AGE_DEFAULT, MaxAge, Peer, Server, UpsList, Users};
-use nutloop::{Call, LoopFault, Ready, turn};
+use nutloop::{Call, Loop, LoopFault, Ready};
 use nutwords::UpsName;
 use std::alloc::Global;
 
@@ -27,9 +27,7 @@ pub struct Failing {
 /// What a run leaves.
 #[derive(Drop)]
 pub struct Ran {
-    pub server: Server,
-    pub sockets: Scripted,
-    pub record: Kept,
+    pub served: Loop<Scripted, Kept>,
     /// The faults of its turns.
     pub faults: Vec<LoopFault>,
     /// Whose connection was shut last in the turn in which a call failed.
@@ -41,9 +39,11 @@ pub struct Ran {
 pub fn run(alloc: Global, rows: &[Row], failing: Option<Failing>) -> Result<Ran> {
     let Script { acts, turns } = script_of(alloc, rows, failing)?;
     let mut ran = Ran {
-        server: server_of(alloc)?,
-        sockets: Scripted::new(alloc, acts),
-        record: Kept::new(alloc),
+        served: Loop {
+            server: server_of(alloc)?,
+            sockets: Scripted::new(alloc, acts),
+            recorder: Kept::new(alloc),
+        },
         faults: Vec::new(alloc),
         shut_behind: None,
     };
@@ -55,13 +55,12 @@ pub fn run(alloc: Global, rows: &[Row], failing: Option<Failing>) -> Result<Ran>
 
 impl Ran {
     fn turn(&mut self) -> Result<()> {
-        let failures = self.sockets.failures();
-        let (server, sockets, record) = (&mut self.server, &mut self.sockets, &mut self.record);
-        if let Err(fault) = turn(server, sockets, record, true) {
+        let failures = self.served.sockets.failures();
+        if let Err(fault) = self.served.turn(true) {
             self.faults.push(fault)?;
         }
-        if self.sockets.failures() > failures {
-            self.shut_behind = shut_last(&self.sockets);
+        if self.served.sockets.failures() > failures {
+            self.shut_behind = shut_last(&self.served.sockets);
         }
         Ok(())
     }

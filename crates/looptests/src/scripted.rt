@@ -4,7 +4,7 @@ ghost use Rattle.std.specs.Option.{option_map};
 ghost use Rattle.nutio.specs.Ends.{counted};
 ghost use Rattle.nutloop.specs.Sockets.{Follows};
 
-use nutcore::{Bytes, ClientId, Peer, Server, Standing};
+use nutcore::{Bytes, ClientId, Peer, Server};
 use nutloop::{Broken, Call, Got, Ready, Sockets};
 use nutwords::Address;
 use std::alloc::Global;
@@ -103,15 +103,16 @@ impl Sockets for Scripted {
         None
     }
 
-    fn look(&mut self, _server: &Server, _soon: bool) -> Result<Ready, Broken> {
+    fn look(&mut self, _server: &Server, soon: bool) -> Result<Ready, Broken> {
         let Act::Ready(ready) = self.next() else {
             return Err(self.fail());
         };
+        self.keep(Call::Looked(soon));
         self.keep(Call::Readied(ready));
         Ok(ready)
     }
 
-    fn accept(&mut self) -> Result<Option<Address>, Broken> {
+    fn accept(&mut self, _server: &Server) -> Result<Option<Address>, Broken> {
         let Act::Comes(address) = self.next() else {
             return Err(self.fail());
         };
@@ -131,7 +132,7 @@ impl Sockets for Scripted {
         self.keep(Call::Refused);
     }
 
-    fn read(&mut self, p: Peer, into: &mut [u8]) -> Result<Got, Broken> {
+    fn read(&mut self, _server: &Server, p: Peer, into: &mut [u8]) -> Result<Got, Broken> {
         match self.next() {
             Act::Gives(bytes) => {
                 let n = bytes.as_slice().len();
@@ -169,6 +170,4 @@ impl Sockets for Scripted {
     fn shut(&mut self, p: Peer) {
         self.keep(Call::Shut(p));
     }
-
-    fn had_turn(&mut self, _c: ClientId, _standing: Standing) {}
 }

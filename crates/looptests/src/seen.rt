@@ -27,11 +27,11 @@ pub fn bytes_taken(alloc: Global, sockets: &Scripted, p: Peer) -> Result<Vec<u8>
     Ok(taken)
 }
 
-/// The calls after each `ready`, in text.
+/// The calls after each look, in text.
 pub fn other_calls(alloc: Global, sockets: &Scripted) -> Result<String> {
     let mut text = String::new(alloc);
     for call in sockets.calls() {
-        if !matches!(call, Call::Readied(_)) {
+        if !matches!(call, Call::Looked(_) | Call::Readied(_)) {
             text.push_str(format!(in alloc; "{call:?}\n")?.as_str())?;
         }
     }

@@ -30,12 +30,12 @@ use Rattle.nutloop.specs.declared.over_mio.pass.Pass.{Pass}
 use Rattle.nutloop.specs.declared.over_mio.pass.Stop.{Stop}
 use Rattle.nutloop.specs.declared.sockets.Ready.TheVariants.{Read}
 use Rattle.nutloop.specs.Pass.{HasNext, IsOver, fresh, number}
-use Rattle.nutloop.specs.Serving.{Running}
+use Rattle.nutloop.specs.declared.turns.Loop.{Loop}
 use Rattle.nutloop.specs.Sockets.{Told}
-use Rattle.nutloop.specs.Turn.{IsTurn, LoopState, MayAnswer, ask, gave, nobody, reads, room_at}
+use Rattle.nutloop.specs.Turn.{IsTurn, MayAnswer, ask, gave, nobody, reads, room_at}
 use Rattle.nutloop.specs.Turn.{row_events, took, write_of}
-use Rattle.nutloop.specs.Fairness.{FromLookToLook, Turn}
-use Rattle.nutloop.specs.InTime.{AnyTurns, AreHadInOrder, EachLook, IsHadAt}
+use Rattle.nutloop.specs.Fairness.{AnyTurns, FromLookToLook, Turn}
+use Rattle.nutloop.specs.InTime.{AreHadInOrder, EachLook, IsHadAt}
 use Rattle.nutloop.specs.InTime.{IsReadyUpToItsTurn, Reads, TakesAll}
 use Rattle.nutloop.specs.InTime.{WhoeverAsksLearnsInTime}
 use Rattle.nutloop.proofs.Fairness.{GoAll, GoesOne, reached}
@@ -80,15 +80,15 @@ still_ready s t ts b other (is, inl same) = absurd (other same)
 still_ready s t ts b other (is, inr later) = later
 
 module _ {S R : Type 0} (told : S → Told) (holds : R → Recorded) where
-  any_turns : (old : Running S R) (before : Pass) (ts : List (Option Turn)) (after : Pass)
-      (new : Running S R) → GoAll told holds old before ts after new → AnyTurns told holds old ts new
+  any_turns : (old : Loop S R) (before : Pass) (ts : List (Option Turn)) (after : Pass)
+      (new : Loop S R) → GoAll told holds old before ts after new → AnyTurns told holds old ts new
   any_turns old before [] after new go = go.0
   any_turns old before (t ∷ ts) after new (mid, (pass, turn, go)) =
       (turn.looks, (mid, turn.one, any_turns mid pass ts after new go))
 
   -- The turn of a stop, and who is ready after it.
-  record Found (s : Stop) (old : Running S R) (ts : List (Option Turn)) (after : Pass)
-      (new : Running S R) : Type 0 where
+  record Found (s : Stop) (old : Loop S R) (ts : List (Option Turn)) (after : Pass)
+      (new : Loop S R) : Type 0 where
     had : IsHadAt told holds s old ts new
     pass : Pass
     next : pass.next ≡ number s + 1
@@ -97,8 +97,8 @@ module _ {S R : Type 0} (told : S → Told) (holds : R → Recorded) where
         IsReadyUpToItsTurn other ts b → IsReadyUpToItsTurn other had.after b
 
   -- One more turn before it.
-  after_turn : (s : Stop) (old mid : Running S R) (before pass : Pass) (t : Option Turn)
-      (ts : List (Option Turn)) (after : Pass) (new : Running S R) → GoesOne told holds old before t pass mid
+  after_turn : (s : Stop) (old mid : Loop S R) (before pass : Pass) (t : Option Turn)
+      (ts : List (Option Turn)) (after : Pass) (new : Loop S R) → GoesOne told holds old before t pass mid
       → ((other : Stop) (b : Bool) → number s < number other →
       IsReadyUpToItsTurn other (t ∷ ts) b → IsReadyUpToItsTurn other ts b)
       → Found s mid ts after new → Found s old (t ∷ ts) after new
@@ -122,8 +122,8 @@ module _ {S R : Type 0} (told : S → Told) (holds : R → Recorded) where
     others = λ other b above ready. found.others other b above (others other b above ready);
   }
 
-  find : (s : Stop) (may : Stop → Bool) (old : Running S R) (before : Pass)
-      (ts : List (Option Turn)) (after : Pass) (new : Running S R) →
+  find : (s : Stop) (may : Stop → Bool) (old : Loop S R) (before : Pass)
+      (ts : List (Option Turn)) (after : Pass) (new : Loop S R) →
       GoAll told holds old before ts after new → before.next ≤ number s
       → IsReadyUpToItsTurn s ts (may s) → IsOver may after after → Found s old ts after new
   find s may old before [] after new go ahead ready over =
@@ -163,45 +163,45 @@ module _ {S R : Type 0} (told : S → Told) (holds : R → Recorded) where
             (still_ready s t ts (may s) (not_its s t next yet) ready) over)
       ]
 
-  in_order : (old new : Running S R) (turns : List Turn)
+  in_order : (old new : Loop S R) (turns : List Turn)
       (looks : FromLookToLook told holds old turns new) (first second third : Stop) →
       number first < number second → number second < number third
-      → IsReadyUpToItsTurn first (looks.first ∷ looks.later)
+      → IsReadyUpToItsTurn first (looks.from.first ∷ looks.from.later)
       (looks.is.may new.server.state first) →
-      IsReadyUpToItsTurn second (looks.first ∷ looks.later) (looks.is.may new.server.state second)
-      → AreHadInOrder told holds first second third old (looks.first ∷ looks.later)
+      IsReadyUpToItsTurn second (looks.from.first ∷ looks.from.later) (looks.is.may new.server.state second)
+      → AreHadInOrder told holds first second third old (looks.from.first ∷ looks.from.later)
       (looks.is.may new.server.state third) new
   in_order old new turns looks first second third below above reports asks =
       let may = looks.is.may new.server.state in
-      let all : List (Option Turn) = looks.first ∷ looks.later in
-      let one = find first may old fresh all looks.is.pass new
+      let all : List (Option Turn) = looks.from.first ∷ looks.from.later in
+      let one = find first may old fresh all looks.is.so_far.pass new
       (reached told holds old turns new looks) (omega arith) reports looks.over in
-      let two = find second may one.had.to one.pass one.had.after looks.is.pass new one.go
+      let two = find second may one.had.to one.pass one.had.after looks.is.so_far.pass new one.go
       (omega (arith, one.next, below)) (one.others second (may second) below asks) looks.over in
       record {
         reports = one.had;
         asks = two.had;
-        takes = λ ready. (find third may two.had.to two.pass two.had.after looks.is.pass new two.go
+        takes = λ ready. (find third may two.had.to two.pass two.had.after looks.is.so_far.pass new two.go
             (omega (arith, two.next, above)) ready looks.over).had;
       }
 
-  each_look : (n : ℕ) (old new : Running S R) (s : Stop) →
+  each_look : (n : ℕ) (old new : Loop S R) (s : Stop) →
       EachLook told holds (λ before turns at_look after. IsReadyUpToItsTurn s turns at_look) s n old new
       → EachLook told holds (λ before turns at_look after. IsHadAt told holds s before turns after) s n old new
   each_look zero old new s same = same
   each_look (suc n) old new s (mid, (turns, (looks, ready, rest))) =
       let may = looks.is.may mid.server.state in
-      let all : List (Option Turn) = looks.first ∷ looks.later in
-      let found = find s may old fresh all looks.is.pass mid
+      let all : List (Option Turn) = looks.from.first ∷ looks.from.later in
+      let found = find s may old fresh all looks.is.so_far.pass mid
       (reached told holds old turns mid looks) (omega arith) ready looks.over in
       (mid, (turns, (looks, found.had, each_look n mid new s rest)))
 
   -- Turns are runs.
-  turns_between : (old : Running S R) (ts : List (Option Turn)) (new : Running S R) →
+  turns_between : (old : Loop S R) (ts : List (Option Turn)) (new : Loop S R) →
       AnyTurns told holds old ts new → Between told holds old new
   turns_between old [] new same = still told holds old new same
   turns_between old (t ∷ ts) new (looks, (mid, turn, rest)) =
-      joined told holds old mid new (one told holds old mid turn.turn) (turns_between mid ts new rest)
+      joined told holds old mid new (one told holds turn.soon old mid turn.turn) (turns_between mid ts new rest)
 
 -- A row of one event.
 record OneStep (old : ServerState) (e : Event) (outcomes : List Outcome) (new : ServerState) : Type 0 where
@@ -221,14 +221,6 @@ read_events : (s : ServerState) (p : Peer) (bytes : List ℕ) →
 read_events s (Client c) bytes = refl
 read_events s (Driver u) bytes = refl
 
-is_read : {old new : LoopState} (p : Peer) (bytes : List ℕ) (turn : IsTurn old new) →
-    Reads p bytes turn → OneStep old.server.state (came_from p bytes) turn.row.does.outcomes new.server.state
-is_read {old} {new} p bytes turn given =
-    one_step old.server.state new.server.state (came_from p bytes) turn.row.does.outcomes
-    (subst (λ (es : List Event). Run old.server.state es turn.row.does.outcomes new.server.state)
-    (read_events old.server.state p bytes)
-    (rw (given.0, given.1) at turn.row.does.run))
-
 -- What an idle client gives has room, and who takes is open.
 fits : (c : ℕ) (bytes : List ℕ) (s : ServerState) →
     MayAnswer (ask s (Read (Client c))) (gave bytes) → length bytes ≤ room_at c s
@@ -243,28 +235,10 @@ room_is : (c : ℕ) (s : ServerState) (x : SessionState) → session c s ≡ Som
     room_at c s ≡ HELD_LIMIT
 room_is c s x found idle = rw (found, idle.going, idle.held) refl
 
-line_fits : {old new : LoopState} (c : ℕ) (line : List ℕ) (x : SessionState)
-    (turn : IsTurn old new) → Reads (Client c) (with_lf line) turn →
-    session c old.server.state ≡ Some x → IsIdle x → length (with_lf line) ≤ HELD_LIMIT
-line_fits {old} c line x turn given found idle =
-    let may : MayAnswer (ask old.server.state (Read (Client c))) (gave (with_lf line)) =
-    rw (given.0, given.1) at turn.row.may in
-    subst (λ room. length (with_lf line) ≤ room) (room_is c old.server.state x found idle)
-    (fits c (with_lf line) old.server.state may)
-
 open_by : (c n : ℕ) (o : Option SessionState) (used : Bool) →
     MayAnswer (write_of (Client c) (offered o)) (took n) → option_map_or (λ x. false) o used ≡ false
 open_by c n None used h = absurd h
 open_by c n (Some x) used h = refl
-
-is_open : {old new : LoopState} (c : ℕ) (turn : IsTurn old new) → TakesAll c turn →
-    is_closed c old.server.state ≡ false
-is_open {old} c turn takes =
-    let s = old.server.state in
-    let n : ℕ = length (offered (session c s)) in
-    let may : MayAnswer (write_of (Client c) (offered (session c s))) (took n) =
-    rw (takes.0, takes.1) at turn.row.may in
-    open_by c n (session c s) (nat_lt c s.next_id) may
 
 -- What comes first is taken first.
 cons_is : (x y : ℕ) (xs ys : List ℕ) → x ∷ xs ≡ y ∷ ys → (x ≡ y) × (xs ≡ ys)
@@ -290,6 +264,33 @@ fed_is : (o : Outcome) (n : ℕ) (outcomes : List Outcome) → outcomes ≡ o �
 fed_is o n outcomes h k = cc (h, k)
 
 module _ {S R : Type 0} (told : S → Told) (holds : R → Recorded) where
+  is_read : {soon : Bool} {old new : Loop S R} (p : Peer) (bytes : List ℕ) (turn : IsTurn told holds soon old new) →
+      Reads told holds p bytes turn →
+      OneStep old.server.state (came_from p bytes) turn.row.does.outcomes new.server.state
+  is_read {soon} {old} {new} p bytes turn given =
+      one_step old.server.state new.server.state (came_from p bytes) turn.row.does.outcomes
+      (subst (λ (es : List Event). Run old.server.state es turn.row.does.outcomes new.server.state)
+      (read_events old.server.state p bytes)
+      (rw (given.0, given.1) at turn.row.does.run))
+
+  line_fits : {soon : Bool} {old new : Loop S R} (c : ℕ) (line : List ℕ) (x : SessionState)
+      (turn : IsTurn told holds soon old new) → Reads told holds (Client c) (with_lf line) turn →
+      session c old.server.state ≡ Some x → IsIdle x → length (with_lf line) ≤ HELD_LIMIT
+  line_fits {soon} {old} c line x turn given found idle =
+      let may : MayAnswer (ask old.server.state (Read (Client c))) (gave (with_lf line)) =
+      rw (given.0, given.1) at turn.row.may in
+      subst (λ room. length (with_lf line) ≤ room) (room_is c old.server.state x found idle)
+      (fits c (with_lf line) old.server.state may)
+
+  is_open : {soon : Bool} {old new : Loop S R} (c : ℕ) (turn : IsTurn told holds soon old new) →
+      TakesAll told holds c turn → is_closed c old.server.state ≡ false
+  is_open {soon} {old} c turn takes =
+      let s = old.server.state in
+      let n : ℕ = length (offered (session c s)) in
+      let may : MayAnswer (write_of (Client c) (offered (session c s))) (took n) =
+      rw (takes.0, takes.1) at turn.row.may in
+      open_by c n (session c s) (nat_lt c s.next_id) may
+
   pub whoever_asks_learns_in_time : ALineIsAnsweredAtOnce → WhatWasSentAndIsOwedIsTheAnswers →
       EveryRunKeepsTheServerSound → ASoundServerIsLawful → WhoeverAsksLearnsInTime told holds
   whoever_asks_learns_in_time at_once headline keeps_sound sound_is_lawful = record {
@@ -310,9 +311,9 @@ module _ {S R : Type 0} (told : S → Told) (holds : R → Recorded) where
         let later = turns_between told holds asks.to takes.before takes.from takes.earlier in
         let before = joined told holds old reports.from reports.to
         (turns_between told holds old reports.before reports.from reports.earlier)
-        (one told holds reports.from reports.to reports.one.turn) in
+        (one told holds reports.one.soon reports.from reports.to reports.one.turn) in
         let since = joined told holds reports.to asks.from asks.to between
-        (one told holds asks.from asks.to asks.one.turn) in
+        (one told holds asks.one.soon asks.from asks.to asks.one.turn) in
         let all_before = joined told holds old reports.to asks.to before since in
         let lawful : IsLawful asks.to.server.state =
         sound_is_lawful asks.to.server.state

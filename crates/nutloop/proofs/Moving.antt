@@ -22,7 +22,7 @@ use Rattle.nutloop.specs.declared.sockets.Ready.{Ready}
 use Rattle.nutloop.specs.declared.sockets.Ready.TheVariants.{Nothing, Tick, Newcomer, Id, DriverUp, Read, Write}
 use Rattle.nutloop.specs.declared.sockets.Call.{Call}
 use Rattle.nutloop.specs.declared.sockets.Call.TheVariants as calls
-use Rattle.nutloop.specs.declared.turns.TheConstants.{DRIVER_READ_LIMIT}
+use Rattle.nutcore.specs.declared.TheConstants.{DRIVER_READ_LIMIT}
 use Rattle.nutcore.specs.DriverOrders.{owed_to_driver}
 use Rattle.nutloop.specs.Turn.{nobody, accepts, reads, Answer, unasked, newcomer, gave, later}
 use Rattle.nutloop.specs.Turn.{ended, took, failed, ask, write_of, room_at, is_finished_at}
@@ -32,6 +32,7 @@ use Rattle.nutloop.specs.Turn.{calls_behind_all, loses_driver}
 use Rattle.nutloop.specs.Moved.{along}
 
 pub record Fit (g : Call → List ℕ) (f : ServerState → Event → List ℕ) : Type 0 where
+  pub looked : (soon : Bool) → g (calls.Looked soon) ≡ []
   pub readied : (r : Ready) → g (calls.Readied r) ≡ []
   pub accepted : (a : Option (List ℕ)) → g (calls.Accepted a) ≡ []
   pub named : (c : ℕ) → g (calls.Named c) ≡ []
@@ -77,17 +78,10 @@ behind_lost : (g : Call → List ℕ) (f : ServerState → Event → List ℕ) �
 behind_lost g f fit u true = one_call g (calls.Shut (Driver u)) [] (fit.shut (Driver u))
 behind_lost g f fit u false = refl
 
-behind_bytes : (g : Call → List ℕ) (f : ServerState → Event → List ℕ) → Fit g f →
-    (u : UpsId) (piece : List ℕ) (o : Outcome) → flat_map g (calls_behind (event.DriverBytes u piece) o) ≡ []
-behind_bytes g f fit u piece outcome.Done = refl
-behind_bytes g f fit u piece (outcome.Fed n) = refl
-behind_bytes g f fit u piece (outcome.Opened c) = refl
-behind_bytes g f fit u piece (outcome.Refused r) = behind_lost g f fit u (loses_driver r)
-
 behind : (g : Call → List ℕ) (f : ServerState → Event → List ℕ) → Fit g f →
     (e : Event) (o : Outcome) → flat_map g (calls_behind e o) ≡ []
 behind g f fit (event.DriverUp u) o = refl
-behind g f fit (event.DriverBytes u piece) o = behind_bytes g f fit u piece o
+behind g f fit (event.DriverBytes u piece) o = behind_lost g f fit u (loses_driver o)
 behind g f fit (event.DriverTook u n) o = refl
 behind g f fit (event.DriverDown u) o = one_call g (calls.Shut (Driver u)) [] (fit.shut (Driver u))
 behind g f fit (event.Tick n) o = refl

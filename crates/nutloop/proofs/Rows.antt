@@ -17,26 +17,26 @@ use Rattle.nutcore.specs.declared.event.Peer.{Peer}
 use Rattle.nutcore.specs.declared.event.Peer.TheVariants.{Client, Driver}
 use Rattle.nutcore.specs.declared.TheConstants.{HELD_LIMIT}
 use Rattle.nutcore.specs.declared.server.status.Standing.{Standing}
-use Rattle.nutcore.specs.Cost.{RunningServer}
-use Rattle.nutcore.specs.Notes.{notes_of}
+use Rattle.nutcore.specs.Cost.{RunningServer, begun}
 use Rattle.nutcore.specs.Recording.{Recorded, Continues}
 use Rattle.nutcore.specs.Session.{SessionState}
 use Rattle.nutcore.specs.Ups.{UpsState}
 use Rattle.nutcore.specs.Server.{ServerState, session}
 use Rattle.nutcore.specs.Parts.{ups_at}
-use Rattle.nutcore.specs.Step.{Step, offered}
+use Rattle.nutcore.specs.Step.{offered}
 use Rattle.nutcore.specs.Calls.{room_of, standing_of, is_finished, owed_to, Reads, ReadsUps}
 use Rattle.nutcore.specs.DriverHistory.{has_driver}
 use Rattle.nutcore.specs.DriverOrders.{owed_to_driver}
 use Rattle.nutloop.specs.declared.sockets.Ready.{Ready}
 use Rattle.nutloop.specs.declared.sockets.Ready.TheVariants.{Read}
 use Rattle.nutloop.specs.declared.sockets.Call.{Call}
-use Rattle.nutloop.specs.declared.sockets.Call.TheVariants.{Refused}
-use Rattle.nutloop.specs.declared.turns.TheConstants.{DRIVER_READ_LIMIT}
-use Rattle.nutloop.specs.Sockets.{Told, Answers, Follows, IsFound, Readies, Reports}
+use Rattle.nutloop.specs.declared.sockets.Call.TheVariants.{Refused, Shut}
+use Rattle.nutcore.specs.declared.TheConstants.{DRIVER_READ_LIMIT}
+use Rattle.nutloop.specs.declared.turns.Loop.{Loop}
+use Rattle.nutloop.specs.Sockets.{Told, Answers, Follows, Reports}
 use Rattle.nutloop.specs.Turn.{Ask, nobody, reads, writes, Answer, unasked, ask, read_of, write_of}
-use Rattle.nutloop.specs.Turn.{MayAnswer, answered, row_events, end_of, calls_behind, Does}
-use Rattle.nutloop.specs.Turn.{failures_by, IsRow, IsTurn, around}
+use Rattle.nutloop.specs.Turn.{MayAnswer, answered, row_events, end_of, calls_behind, Does, Happens}
+use Rattle.nutloop.specs.Turn.{failures_by, IsLeft, IsRow, IsTurn, ReadyGives, forgotten, loss_of}
 
 pub follows_nothing : (a : Option (List Call)) → Follows a [] a
 follows_nothing None = tt
@@ -53,16 +53,7 @@ follows_joins (Some xs) (Some ys) None x y h k = tt
 follows_joins (Some xs) (Some ys) (Some zs) x y h k = k ∙ ap (λ t. t ++ y) h ∙ append_assoc xs x y
 
 pub answers_nothing : (a : Told) → Answers a [] a
-answers_nothing a = record { follows = follows_nothing a.calls; failures = refl; pass = refl }
-
--- Calls after those of which some failed.
-pub reports_then : (count : ℕ → ℕ) (a b c : Told) (x y : List Call) →
-    Reports count a x b → Answers b y c → Reports count a (x ++ y) c
-reports_then count a b c x y h k = record {
-  follows = follows_joins a.calls b.calls c.calls x y h.follows k.follows;
-  failures = k.failures ∙ h.failures;
-  pass = k.pass ∙ h.pass;
-}
+answers_nothing a = record { follows = follows_nothing a.calls; failures = refl; progress = refl }
 
 pub continues_nothing : (holds : Recorded) → Continues holds [] holds
 continues_nothing holds = λ age events held. subst (λ es. holds age es) (sym (append-nil events)) held
@@ -72,29 +63,7 @@ pub continues_joins : (a b c : Recorded) (xs ys : List Event) → Continues a xs
 continues_joins a b c xs ys h k =
     λ age events held. subst (λ es. c age es) (append_assoc events xs ys) (k age (events ++ xs) (h age events held))
 
--- One event is recorded and done, and then the call after it is made.
-pub does_one : (e : Event) (o : Outcome) (old new : RunningServer) (sockets after : Told) (holds kept : Recorded)
-    → Step old.state e o new.state → new.notes ≡ notes_of old.state e o →
-    Continues holds (e ∷ []) kept → Answers sockets (calls_behind e o) after
-    → Does (e ∷ []) (around old sockets holds) (around new after kept)
-does_one e o old new sockets after holds kept step noted recorded reported = record {
-  outcomes = o ∷ [];
-  run = (new.state, step, refl);
-  noted = noted;
-  recorded = recorded;
-  reported = subst (λ cs. Answers sockets cs after) (sym (append-nil (calls_behind e o))) reported;
-}
-
--- One after which no call is made.
-pub does_quietly : (e : Event) (o : Outcome) (old new : RunningServer) (sockets : Told) (holds kept : Recorded)
-    → Step old.state e o new.state → new.notes ≡ notes_of old.state e o →
-    Continues holds (e ∷ []) kept → calls_behind e o ≡ []
-    → Does (e ∷ []) (around old sockets holds) (around new sockets kept)
-does_quietly e o old new sockets holds kept step noted recorded quiet =
-    does_one e o old new sockets sockets holds kept step noted recorded
-    (subst (λ cs. Answers sockets cs sockets) (sym quiet) (answers_nothing sockets))
-
--- The calls after an event by which no session is opened, and after bytes that are not refused.
+-- The calls after an event by which no session is opened.
 pub refused_behind : (a : List ℕ) (o : Outcome) →
     ((c : ℕ) → o ≡ outcome.Opened c → ⊥) → calls_behind (event.Open a) o ≡ Refused ∷ []
 refused_behind a (outcome.Opened c) never = absurd (never c refl)
@@ -102,111 +71,117 @@ refused_behind a outcome.Done _ = refl
 refused_behind a (outcome.Fed n) _ = refl
 refused_behind a (outcome.Refused fault) _ = refl
 
-pub quiet_behind : (u : UpsId) (piece : List ℕ) (o : Outcome) →
-    ((fault : Fault) → o ≡ outcome.Refused fault → ⊥) → calls_behind (event.DriverBytes u piece) o ≡ []
-quiet_behind u piece (outcome.Refused fault) never = absurd (never fault refl)
-quiet_behind u piece outcome.Done _ = refl
-quiet_behind u piece (outcome.Fed n) _ = refl
-quiet_behind u piece (outcome.Opened c) _ = refl
+-- The loss of a peer has the connection shut.
+pub shut_behind : (p : Peer) (o : Outcome) → calls_behind (loss_of p) o ≡ Shut p ∷ []
+shut_behind (Client c) o = refl
+shut_behind (Driver u) o = refl
 
-pub does_nothing : (old new : RunningServer) (sockets : Told) (holds : Recorded) → new ≡ old →
-    Does [] (around old sockets holds) (around new sockets holds)
-does_nothing old new sockets holds same = record {
-  outcomes = [];
-  run = ap (λ (r : RunningServer). r.state) same;
-  noted = ap (λ (r : RunningServer). r.notes) same;
-  recorded = continues_nothing holds;
-  reported = answers_nothing sockets;
-}
+module _ {S R : Type 0} (told : S → Told) (holds : R → Recorded) where
+  -- One event is recorded and done, and then the call after it is made.
+  pub does_then : (e : Event) (o : Outcome) (old mid : Loop S R) (after : S) (calls : List Call) →
+      Happens holds e old o mid → calls_behind e o ≡ calls → Answers (told mid.sockets) calls (told after)
+      → Does told holds (e ∷ []) old (record mid { sockets = after })
+  does_then e o old mid after calls h is reported = record {
+    outcomes = o ∷ [];
+    run = (mid.server.state, h.step, refl);
+    noted = h.noted;
+    recorded = h.recorded;
+    reported = subst (λ cs. Answers (told old.sockets) cs (told after)) (sym is ∙ sym (append-nil (calls_behind e o)))
+        (subst (λ (x : S). Answers (told x) calls (told after)) h.sockets reported);
+  }
 
--- The same from a server that is the same.
-pub does_from : (es : List Event) (old mid new : RunningServer) (sockets after : Told)
-    (holds kept : Recorded) → mid ≡ old
-    → Does es (around mid sockets holds) (around new after kept) →
-    Does es (around old sockets holds) (around new after kept)
-does_from es old mid new sockets after holds kept same rest =
-    subst (λ (r : RunningServer). Does es (around r sockets holds) (around new after kept)) same rest
+  -- One after which no call is made.
+  pub does_quietly : (e : Event) (o : Outcome) (old new : Loop S R) → Happens holds e old o new
+      → calls_behind e o ≡ [] → Does told holds (e ∷ []) old new
+  does_quietly e o old new h quiet = does_then e o old new new.sockets [] h quiet (answers_nothing (told new.sockets))
 
--- A row: the call that it makes, and its events.
-pub row : (ready : Ready) (answer : Answer) (a : Ask) (es : List Event) (old new : RunningServer)
-    (sockets mid after : Told) (holds kept : Recorded)
-    → ask old.state ready ≡ a → row_events old.state ready answer ≡ es
-    → MayAnswer a answer → Reports (failures_by answer) sockets (answered a answer) mid
-    → Does es (around old mid holds) (around new after kept)
-    → IsRow ready (around old sockets holds) (around new after kept)
-row ready answer a es old new sockets mid after holds kept asked rows may called does = record {
-  answer = answer;
-  may = subst (λ x. MayAnswer x answer) (sym asked) may;
-  mid = mid;
-  called = subst (λ x. Reports (failures_by answer) sockets (answered x answer) mid) (sym asked) called;
-  does = subst (λ x. Does x (around old mid holds) (around new after kept)) (sym rows) does;
-}
+  pub does_nothing : (old : Loop S R) → Does told holds [] old old
+  does_nothing old = record {
+    outcomes = [];
+    run = refl;
+    noted = refl;
+    recorded = continues_nothing (holds old.recorder);
+    reported = answers_nothing (told old.sockets);
+  }
 
--- A row that asks nothing of the sockets.
-pub row_unasked : (ready : Ready) (es : List Event) (old new : RunningServer) (sockets after : Told)
-    (holds kept : Recorded)
-    → ask old.state ready ≡ nobody → row_events old.state ready unasked ≡ es →
-    Does es (around old sockets holds) (around new after kept)
-    → IsRow ready (around old sockets holds) (around new after kept)
-row_unasked ready es old new sockets after holds kept asked rows does =
-    row ready unasked nobody es old new sockets sockets after holds kept asked rows tt (answers_nothing sockets) does
+  -- A row: the call that it makes, and its events.
+  pub row : (ready : Ready) (answer : Answer) (a : Ask) (es : List Event) (old new : Loop S R) (mid : S)
+      → ask old.server.state ready ≡ a → row_events old.server.state ready answer ≡ es
+      → MayAnswer a answer → Reports (failures_by answer) (told old.sockets) (answered a answer) (told mid)
+      → Does told holds es (record old { sockets = mid }) new → IsRow told holds ready old new
+  row ready answer a es old new mid asked rows may called does = record {
+    answer = answer;
+    may = subst (λ x. MayAnswer x answer) (sym asked) may;
+    mid = mid;
+    called = subst (λ x. Reports (failures_by answer) (told old.sockets) (answered x answer) (told mid)) (sym asked) called;
+    does = subst (λ x. Does told holds x (record old { sockets = mid }) new) (sym rows) does;
+  }
 
--- A row after which the sockets learn something.
-pub row_then : (ready : Ready) (old new : RunningServer) (sockets mid after : Told)
-    (holds kept : Recorded) → IsRow ready (around old sockets holds) (around new mid kept) → Answers mid [] after
-    → IsRow ready (around old sockets holds) (around new after kept)
-row_then ready old new sockets mid after holds kept r h = record {
-  answer = r.answer;
-  may = r.may;
-  mid = r.mid;
-  called = r.called;
-  does = record {
-    outcomes = r.does.outcomes;
-    run = r.does.run;
-    noted = r.does.noted;
-    recorded = r.does.recorded;
-    reported = subst (λ cs. Answers r.mid cs after) (append-nil _)
-        (reports_then _ r.mid mid after _ [] r.does.reported h);
-  };
-}
+  -- The same from a server that is the same.
+  pub does_from : (es : List Event) (old new : Loop S R) (server : RunningServer) (mid : S) →
+      server ≡ old.server → Does told holds es (record old { server = server; sockets = mid }) new →
+      Does told holds es (record old { sockets = mid }) new
+  does_from es old new server mid same rest =
+      subst (λ (s : RunningServer). Does told holds es (record old { server = s; sockets = mid }) new) same rest
 
--- A turn: what is ready is found, before which the record may be written, and then its row is done.
-pub turn_of : (ready : Ready) (old new : RunningServer) (sockets mid after : Told)
-    (holds paused kept : Recorded) →
-    Readies (λ x y. IsFound old.state ready x y) sockets ready mid → Continues holds [] paused
-    → IsRow ready (around old mid paused) (around new after kept) →
-    IsTurn (around old sockets holds) (around new after kept)
-turn_of ready old new sockets mid after holds paused kept found recorded r = record {
-  ready = ready;
-  mid = mid;
-  found = found;
-  row = record {
-    answer = r.answer;
-    may = r.may;
-    mid = r.mid;
-    called = r.called;
-    does = record {
-      outcomes = r.does.outcomes;
-      run = r.does.run;
-      noted = r.does.noted;
-      recorded =
-          continues_joins holds paused kept [] (row_events old.state ready r.answer) recorded r.does.recorded;
-      reported = r.does.reported;
-    };
-  };
-}
+  -- A row that asks nothing of the sockets.
+  pub row_unasked : (ready : Ready) (es : List Event) (old new : Loop S R)
+      → ask old.server.state ready ≡ nobody → row_events old.server.state ready unasked ≡ es →
+      Does told holds es old new → IsRow told holds ready old new
+  row_unasked ready es old new asked rows does =
+      row ready unasked nobody es old new old.sockets asked rows tt (answers_nothing (told old.sockets)) does
 
--- The turn of a peer that is this one.
-pub turn_of_peer : (turn : Peer → Ready) (p q : Peer) (old new : RunningServer)
-    (sockets mid after : Told) (holds paused kept : Recorded) → p ≡ q →
-    Readies (λ x y. IsFound old.state (turn p) x y) sockets (turn p) mid
-    → Continues holds [] paused →
-    IsRow (turn q) (around old mid paused) (around new after kept) →
-    IsTurn (around old sockets holds) (around new after kept)
-turn_of_peer turn p q old new sockets mid after holds paused kept is found recorded r =
-    turn_of (turn q) old new sockets mid after holds paused kept
-    (subst (λ (this : Peer). Readies (λ x y. IsFound old.state (turn this) x y) sockets
-    (turn this) mid) is found) recorded r
+  -- A row of nothing, after which the server is the same.
+  pub row_of_nothing : (ready : Ready) (old : Loop S R) (server : RunningServer) → server ≡ old.server →
+      ask old.server.state ready ≡ nobody → row_events old.server.state ready unasked ≡ [] →
+      IsRow told holds ready old (record old { server = server })
+  row_of_nothing ready old server same asked rows =
+      subst (λ (s : RunningServer). IsRow told holds ready old (record old { server = s })) (sym same)
+      (row_unasked ready [] old old asked rows (does_nothing old))
+
+  -- A row of a loop that is left as it was: only the record may be written.
+  row_from : (ready : Ready) (old mid new : Loop S R) → IsLeft told holds old mid → IsRow told holds ready mid new
+      → IsRow told holds ready (record old { sockets = mid.sockets }) new
+  row_from ready old mid new left r =
+      let here : IsRow told holds ready (record mid { server = old.server }) new =
+      subst (λ (s : RunningServer). IsRow told holds ready (record mid { server = s }) new) left.server r in
+      record {
+        answer = here.answer;
+        may = here.may;
+        mid = here.mid;
+        called = here.called;
+        does = record {
+          outcomes = here.does.outcomes;
+          run = here.does.run;
+          noted = here.does.noted;
+          recorded = continues_joins (holds old.recorder) (holds mid.recorder) (holds new.recorder) []
+              (row_events old.server.state ready here.answer) left.recorded here.does.recorded;
+          reported = here.does.reported;
+        };
+      }
+
+  -- A turn: what is ready is found, before which the record may be written, and then its row is done.
+  pub turn_of : (soon : Bool) (found ready : Ready) (old mid new : Loop S R) (server : RunningServer) →
+      server ≡ begun old.server.state → found ≡ ready →
+      ReadyGives told holds soon (record old { server = server }) (Ok found) mid →
+      IsRow told holds ready mid new → IsTurn told holds soon old new
+  turn_of soon found ready old mid new server begun is gives r =
+      let from : ReadyGives told holds soon (forgotten told holds old) (Ok ready) mid =
+      subst (λ (s : RunningServer). ReadyGives told holds soon (record old { server = s }) (Ok ready) mid) begun
+      (subst (λ (x : Ready). ReadyGives told holds soon (record old { server = server }) (Ok x) mid) is gives) in
+      record {
+        ready = ready;
+        mid = mid.sockets;
+        found = from.1;
+        row = row_from ready (forgotten told holds old) mid new from.0 r;
+      }
+
+  -- A row of one event, without a call.
+  pub row_of_event : (ready : Ready) (e : Event) (o : Outcome) (old new : Loop S R)
+      → ask old.server.state ready ≡ nobody → row_events old.server.state ready unasked ≡ e ∷ [] →
+      Happens holds e old o new → calls_behind e o ≡ [] → IsRow told holds ready old new
+  row_of_event ready e o old new asked rows h quiet =
+      row_unasked ready (e ∷ []) old new asked rows (does_quietly e o old new h quiet)
 
 -- The calls of clients' rows.
 

@@ -37,7 +37,7 @@ use Rattle.nutcore.specs.OrdersByRight.{all_given}
 use Rattle.nutloop.specs.declared.sockets.Call.{Call}
 use Rattle.nutcore.specs.Recording.{Recorded}
 use Rattle.nutloop.specs.Sockets.{Told}
-use Rattle.nutloop.specs.Serving.{Running}
+use Rattle.nutloop.specs.declared.turns.Loop.{Loop}
 use Rattle.nutloop.specs.Turn.{room_at}
 use Rattle.nutloop.specs.Moved.{is_client, is_driver, gave_in, took_in, bytes_given, bytes_taken, along}
 use Rattle.nutloop.specs.SocketToSocket.{IsAnswered, AreAnswered, WhatASocketGaveIsAnswered}
@@ -209,7 +209,7 @@ what_a_socket_gave_is_answered {S} {R} told holds sent up timely never opening s
     λ old new result before now is_new turns reported reported_after.
     from old new before now is_new (all_are_moved told holds old result new turns) reported reported_after
   where
-    from : (old new : Running S R) (before now : List Call) → IsNewServer old.server.state →
+    from : (old new : Loop S R) (before now : List Call) → IsNewServer old.server.state →
         Between told holds old new → (told old.sockets).calls ≡ Some before →
         (told new.sockets).calls ≡ Some now
         → (since : List Call) × (now ≡ before ++ since) × AreAnswered since old.server.state new.server.state
@@ -345,7 +345,7 @@ a_driver_is_served_by_its_socket {S} {R} told holds executed_all sent_all =
     λ old new result before now sound turns reported reported_after.
     from old new before now sound (all_are_moved told holds old result new turns) reported reported_after
   where
-    from : (old new : Running S R) (before now : List Call) → IsSound old.server.state →
+    from : (old new : Loop S R) (before now : List Call) → IsSound old.server.state →
         Between told holds old new → (told old.sockets).calls ≡ Some before →
         (told new.sockets).calls ≡ Some now
         → (since : List Call) × (now ≡ before ++ since) ×

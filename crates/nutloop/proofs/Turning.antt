@@ -1,6 +1,6 @@
 -- Turns, one after another, and what they move.
 use Rattle.std.proofs.Common.{◌≡◌, ℕ, zero, suc, Bool, true, false, List, [], ◌∷◌}
-use Rattle.std.proofs.Common.{◌++◌, length, take, Option, Some, None, refl, sym, ap, ap₂}
+use Rattle.std.proofs.Common.{◌++◌, length, take, Option, Some, None, refl, sym, ap, ap₂, inl, inr}
 use Rattle.std.proofs.Common.{subst, ◌∙◌, ◌+◌, add-one, append-nil, append_assoc, arith}
 use Rattle.std.proofs.Common.{rules, All}
 use Rattle.std.specs.Prelude.{◌≤◌, ◌==◌, if◌then◌else◌, Result, Ok, Err, IfSome, IsTrue, nat_le}
@@ -8,34 +8,40 @@ use Rattle.std.specs.Option.{option_map_or}
 use Rattle.std.specs.List.{flat_map}
 use Rattle.std.proofs.lemmas.Grind.{flat_map-append}
 use Rattle.std.proofs.lemmas.Bool.Decides.{nat_tests}
-use Rattle.std.proofs.lemmas.List.Elements.{All-nil, All-cons}
+use Rattle.std.proofs.lemmas.List.Elements.{All-nil, All-cons, All-head, All-tail}
 use Rattle.nutusers.specs.declared.ups_list.UpsId.{UpsId}
 use Rattle.nutcore.specs.declared.event.Event.{Event}
+use Rattle.nutcore.specs.declared.event.Event.TheVariants as event
 use Rattle.nutcore.specs.declared.event.Outcome.{Outcome}
+use Rattle.nutcore.specs.declared.event.Peer.TheVariants.{Client, Driver}
+use Rattle.nutcore.specs.declared.TheConstants.{DRIVER_READ_LIMIT}
 use Rattle.nutcore.specs.declared.note.Note.{Note}
 use Rattle.nutcore.specs.Session.{SessionState}
 use Rattle.nutcore.specs.Server.{ServerState, session}
 use Rattle.nutcore.specs.Pump.{owed_of}
 use Rattle.nutcore.specs.Cost.{RunningServer, begun}
-use Rattle.nutcore.specs.Notes.{notes_of}
+use Rattle.nutcore.specs.Notes.{IsReadAtOnce, notes_of}
 use Rattle.nutcore.specs.NotedRuns.{notes_along}
 use Rattle.nutcore.specs.Recording.{Recorded, Continues}
 use Rattle.nutcore.specs.Step.{after, offered, may_take}
 use Rattle.nutcore.specs.Run.{Run}
 use Rattle.nutcore.specs.History.{taken, taken_in_event}
-use Rattle.nutcore.specs.DriverHistory.{came, came_in_event}
+use Rattle.nutcore.specs.DriverHistory.{came, came_in_event, has_driver}
 use Rattle.nutcore.specs.DriverOrders.{owed_to_driver}
 use Rattle.nutcore.specs.Addresses.{OpensLawfully, opened_from}
 use Rattle.nutwords.specs.Reading.{is_address}
 use Rattle.nutloop.specs.declared.fault.LoopFault.{LoopFault}
 use Rattle.nutloop.specs.declared.fault.LoopFault.TheVariants as fault
 use Rattle.nutloop.specs.declared.sockets.Ready.{Ready}
-use Rattle.nutloop.specs.declared.sockets.Ready.TheVariants.{Newcomer}
+use Rattle.nutloop.specs.declared.sockets.Ready.TheVariants.{Nothing, Newcomer, Tick, Id, DriverUp, Read, Write}
 use Rattle.nutloop.specs.declared.sockets.Call.{Call}
 use Rattle.nutloop.specs.declared.sockets.Call.TheVariants.{Readied}
-use Rattle.nutloop.specs.Sockets.{Follows, Told}
-use Rattle.nutloop.specs.Turn.{ask, answered, row_events, calls_behind_all, AreNoted, IsTurn, LoopState}
-use Rattle.nutloop.specs.Serving.{Running, before_turn, seen, Turns, ShownTurns, Ends, IsOneRun, TurnsUpTo}
+use Rattle.nutloop.specs.declared.turns.Loop.{Loop}
+use Rattle.nutloop.specs.Sockets.{Follows, IsFound, Told, look_calls}
+use Rattle.nutloop.specs.Turn.{ask, answered, row_events, calls_behind_all, AreNoted, IsTurn, MayAnswer}
+use Rattle.nutloop.specs.Turn.{Answer, unasked, newcomer, gave, later, ended, took, failed, nobody, reads}
+use Rattle.nutloop.specs.Turn.{opening, read_of_client, read_of_driver, write_to_client, write_to_driver}
+use Rattle.nutloop.specs.Serving.{Turns, ShownTurns, Ends, Serves, TurnsUpTo}
 use Rattle.nutloop.specs.Moved.{is_client, is_driver, gave_in, took_in, along, fed_in_event}
 use Rattle.nutloop.specs.Moved.{driver_took_in_event, AreMoved, EveryByteIsMovedOnce}
 use Rattle.nutloop.proofs.Rows.{follows_nothing, follows_joins, continues_nothing, continues_joins}
@@ -70,6 +76,10 @@ notes_join s mid (e ∷ es) fs (o ∷ os) qs r =
     ap (λ v. notes_of s e o ++ v) (notes_join (after s e o) mid es fs os qs rest) ∙
     sym (append_assoc (notes_of s e o) (notes_along (after s e o) es os) (notes_along mid fs qs))
 
+pub all_joins : {X : Type 0} (P : X → Type 0) (xs ys : List X) → All P xs → All P ys → All P (xs ++ ys)
+all_joins P [] ys h k = k
+all_joins P (x ∷ xs) ys h k = All-cons P x (xs ++ ys) (All-head P x xs h) (all_joins P xs ys (All-tail P x xs h) k)
+
 noted_by_one : (s : ServerState) (new : RunningServer) (es : List Event) (os : List Outcome) →
     AreNoted (begun s) es os new → new.notes ≡ notes_along s es os
 noted_by_one s new [] [] h = h
@@ -78,89 +88,6 @@ noted_by_one s new [] (o ∷ os) h = absurd h
 noted_by_one s new (e ∷ []) [] h = absurd h
 noted_by_one s new (e ∷ []) (o ∷ (q ∷ os)) h = absurd h
 noted_by_one s new (e ∷ (f ∷ es)) os h = absurd h
-
--- What turns did, in the words of any reading of calls and events that fit.
-pub record Moves (old : ServerState) (a : Told) (holds : Recorded) (new : ServerState) (b : Told)
-    (kept : Recorded) : Type 0 where
-  pub since : List Call
-  pub events : List Event
-  pub outcomes : List Outcome
-  pub follows : Follows a.calls since b.calls
-  pub run : Run old events outcomes new
-  pub recorded : Continues holds events kept
-  pub moves : (g : Call → List ℕ) (f : ServerState → Event → List ℕ) → Fit g f →
-      flat_map g since ≡ along f old events outcomes
-
--- The calls of a row.
-pub row_reads : (g : Call → List ℕ) (f : ServerState → Event → List ℕ) → Fit g f →
-    (r : Ready) (a b : List Call) (bytes : List ℕ) → flat_map g a ≡ bytes → flat_map g b ≡
-    [] → flat_map g ((Readied r ∷ a) ++ b) ≡ bytes
-row_reads g f fit r a b bytes ha hb =
-    flat_map-append g (Readied r ∷ a) b
-    ∙ ap (λ v. (v ++ flat_map g a) ++ flat_map g b) (fit.readied r)
-    ∙ ap (λ v. flat_map g a ++ v) hb
-    ∙ append-nil (flat_map g a)
-    ∙ ha
-
-abbrev turn_is_moved : (old new : LoopState) → IsTurn old new →
-    Moves old.server.state old.sockets old.record_of new.server.state new.sockets new.record_of
-turn_is_moved old new t =
-    let s = old.server.state in
-    let w = t.row in
-    let es : List Event = row_events s t.ready w.answer in
-    record {
-      since = (Readied t.ready ∷ answered (ask s t.ready) w.answer) ++ calls_behind_all es w.does.outcomes;
-      events = es;
-      outcomes = w.does.outcomes;
-      follows = follows_joins old.sockets.calls w.mid.calls new.sockets.calls
-          (Readied t.ready ∷ answered (ask s t.ready) w.answer) (calls_behind_all es w.does.outcomes)
-          (follows_joins old.sockets.calls t.mid.calls w.mid.calls (Readied t.ready ∷ [])
-          (answered (ask s t.ready) w.answer) t.found.follows w.called.follows)
-          w.does.reported.follows;
-      run = w.does.run;
-      recorded = w.does.recorded;
-      moves = λ g f fit. row_reads g f fit t.ready (answered (ask s t.ready) w.answer)
-          (calls_behind_all es w.does.outcomes) (along f s es w.does.outcomes)
-          (row_moves g f fit s new.server.state t.ready w.answer w.does.outcomes w.may w.does.run)
-          (behind_all g f fit es w.does.outcomes);
-    }
-
-turn_notes : (s : ServerState) (a : Told) (holds : Recorded) (new : LoopState)
-    (t : IsTurn (record { server = begun s; sockets = a; record_of = holds }) new)
-    → new.server.notes ≡ notes_along s
-    (turn_is_moved (record { server = begun s; sockets = a; record_of = holds }) new t).events
-    (turn_is_moved (record { server = begun s; sockets = a; record_of = holds }) new t).outcomes
-turn_notes s a holds new t = noted_by_one s new.server (row_events s t.ready t.row.answer)
-    t.row.does.outcomes t.row.does.noted
-
-abbrev nothing_is_moved : (s new : ServerState) (a b : Told) (holds kept : Recorded) → new ≡
-    s → Follows a.calls [] b.calls → Continues holds [] kept → Moves s a holds new b kept
-nothing_is_moved s new a b holds kept same follows recorded =
-    record {
-      since = [];
-      events = [];
-      outcomes = [];
-      follows = follows;
-      run = same;
-      recorded =
-          recorded;
-      moves = λ g f fit. refl;
-    }
-
-abbrev both_are_moved : (old mid new : ServerState) (a b c : Told) (holds between kept : Recorded)
-    → Moves old a holds mid b between → Moves mid b between new c kept → Moves old a holds new c kept
-both_are_moved old mid new a b c holds between kept x y = record {
-  since = x.since ++ y.since;
-  events = x.events ++ y.events;
-  outcomes = x.outcomes ++ y.outcomes;
-  follows = follows_joins a.calls b.calls c.calls x.since y.since x.follows y.follows;
-  run = run_joins old mid new x.events y.events x.outcomes y.outcomes x.run y.run;
-  recorded = continues_joins holds between kept x.events y.events x.recorded y.recorded;
-  moves = λ g f fit. flat_map-append g x.since y.since ∙
-      ap (λ v. v ++ flat_map g y.since) (x.moves g f fit) ∙
-      ap (λ v. along f old x.events x.outcomes ++ v) (y.moves g f fit) ∙
-      sym (along_joins f old mid x.events y.events x.outcomes y.outcomes x.run);
-}
 
 -- They open sessions only from lawful addresses: of any other there would be something.
 abbrev unlawful : Option (List ℕ) → List ℕ
@@ -194,161 +121,296 @@ opens_lawfully s new (e ∷ es) (o ∷ os) r h =
     All-cons OpensLawfully e es (is_lawful (opened_from e) no.0)
     (opens_lawfully (after s e o) new es os (subst (λ t. Run t es os new) r.1.leaves r.2) no.1)
 
-open_lawfully : (old new : ServerState) (a b : Told) (holds kept : Recorded)
-    (m : Moves old a holds new b kept) → All OpensLawfully m.events
-open_lawfully old new a b holds kept m =
-    opens_lawfully old new m.events m.outcomes m.run
-    (sym (m.moves (λ x. []) (λ s e. unlawful (opened_from e)) lawful_fits) ∙ none_given m.since)
+-- A row reads a driver at once, no more than is read.
+driver_reads : (u : UpsId) (b : Bool) (answer : Answer) →
+    MayAnswer (if b then reads (Driver u) DRIVER_READ_LIMIT else nobody) answer →
+    All IsReadAtOnce (read_of_driver u answer)
+driver_reads u true (gave bytes) may = All-cons IsReadAtOnce (event.DriverBytes u bytes) [] may (All-nil IsReadAtOnce)
+driver_reads u false (gave bytes) may = absurd may
+driver_reads u b later may = search rules
+driver_reads u b ended may = search rules
+driver_reads u b failed may = search rules
+driver_reads u b unasked may = search rules
+driver_reads u b (newcomer address) may = search rules
+driver_reads u b (took n) may = search rules
+
+client_reads : (s : ServerState) (c : ℕ) (answer : Answer) → All IsReadAtOnce (read_of_client s c answer)
+client_reads s c answer = search rules
+
+client_writes : (s : ServerState) (c : ℕ) (answer : Answer) → All IsReadAtOnce (write_to_client s c answer)
+client_writes s c answer = search rules
+
+driver_writes : (u : UpsId) (answer : Answer) → All IsReadAtOnce (write_to_driver u answer)
+driver_writes u answer = search rules
+
+opens_reads : (answer : Answer) → All IsReadAtOnce (opening answer)
+opens_reads answer = search rules
+
+pub row_reads_at_once : (s : ServerState) (ready : Ready) (answer : Answer) → MayAnswer (ask s ready) answer →
+    All IsReadAtOnce (row_events s ready answer)
+row_reads_at_once s Nothing answer may = search rules
+row_reads_at_once s (Tick n) answer may = search rules
+row_reads_at_once s Newcomer answer may = opens_reads answer
+row_reads_at_once s (Id n) answer may = search rules
+row_reads_at_once s (DriverUp u) answer may = search rules
+row_reads_at_once s (Read (Client c)) answer may = client_reads s c answer
+row_reads_at_once s (Read (Driver u)) answer may = driver_reads u (has_driver u s) answer may
+row_reads_at_once s (Write (Client c)) answer may = client_writes s c answer
+row_reads_at_once s (Write (Driver u)) answer may = driver_writes u answer
+
+-- The calls of a row, after those that find what is ready.
+pub row_reads : (g : Call → List ℕ) (f : ServerState → Event → List ℕ) → Fit g f →
+    (found a b : List Call) (bytes : List ℕ) → flat_map g found ≡ [] → flat_map g a ≡ bytes → flat_map g b ≡
+    [] → flat_map g ((found ++ a) ++ b) ≡ bytes
+row_reads g f fit found a b bytes hf ha hb =
+    flat_map-append g (found ++ a) b
+    ∙ ap₂ (λ v w. v ++ w) (flat_map-append g found a) hb
+    ∙ append-nil (flat_map g found ++ flat_map g a)
+    ∙ ap (λ v. v ++ flat_map g a) hf
+    ∙ ha
+
+-- What found what is ready: nothing, or a look.
+abbrev pub finding : {soon : Bool} {s : ServerState} {ready : Ready} {a b : Told} → IsFound soon s ready a b → List Call
+finding {soon} {s} {ready} (inl known) = Readied ready ∷ []
+finding {soon} {s} {ready} (inr looked) = look_calls looked.0 ready
+
+pub found_follows : {soon : Bool} {s : ServerState} {ready : Ready} {a b : Told} (f : IsFound soon s ready a b) →
+    Follows a.calls (finding f) b.calls
+found_follows (inl known) = known.follows
+found_follows (inr looked) = looked.2.follows
+
+pub found_reads : (g : Call → List ℕ) (f : ServerState → Event → List ℕ) → Fit g f → {soon : Bool} {s : ServerState}
+    {ready : Ready} {a b : Told} (h : IsFound soon s ready a b) → flat_map g (finding h) ≡ []
+found_reads g f fit {soon} {s} {ready} (inl known) = append-nil (g (Readied ready)) ∙ fit.readied ready
+found_reads g f fit {soon} {s} {ready} (inr looked) =
+    ap₂ (λ v w. v ++ (w ++ [])) (fit.looked looked.0) (fit.readied ready)
 
 module _ {S R : Type 0} (told : S → Told) (holds : R → Recorded) where
-  abbrev pub Between : Running S R → Running S R → Type 0
-  Between old new = Moves old.server.state (told old.sockets) (holds old.kept) new.server.state
-      (told new.sockets) (holds new.kept)
+  -- What turns did, in the words of any reading of calls and events that fit.
+  pub record Between (old new : Loop S R) : Type 0 where
+    pub since : List Call
+    pub events : List Event
+    pub outcomes : List Outcome
+    pub follows : Follows (told old.sockets).calls since (told new.sockets).calls
+    pub run : Run old.server.state events outcomes new.server.state
+    pub reads : All IsReadAtOnce events
+    pub recorded : Continues (holds old.recorder) events (holds new.recorder)
+    pub moves : (g : Call → List ℕ) (f : ServerState → Event → List ℕ) → Fit g f →
+        flat_map g since ≡ along f old.server.state events outcomes
 
-  abbrev pub still : (old new : Running S R) → new ≡ old → Between old new
-  still old new same = record {
-    since = [];
+  abbrev pub one : (soon : Bool) (old new : Loop S R) → IsTurn told holds soon old new → Between old new
+  one soon old new t =
+      let s = old.server.state in
+      let w = t.row in
+      let es : List Event = row_events s t.ready w.answer in
+      let found = finding t.found in
+      record {
+        since = (found ++ answered (ask s t.ready) w.answer) ++ calls_behind_all es w.does.outcomes;
+        events = es;
+        outcomes = w.does.outcomes;
+        follows = follows_joins (told old.sockets).calls (told w.mid).calls (told new.sockets).calls
+            (found ++ answered (ask s t.ready) w.answer) (calls_behind_all es w.does.outcomes)
+            (follows_joins (told old.sockets).calls (told t.mid).calls (told w.mid).calls found
+            (answered (ask s t.ready) w.answer) (found_follows t.found) w.called.follows)
+            w.does.reported.follows;
+        run = w.does.run;
+        reads = row_reads_at_once s t.ready w.answer w.may;
+        recorded = w.does.recorded;
+        moves = λ g f fit. row_reads g f fit found (answered (ask s t.ready) w.answer)
+            (calls_behind_all es w.does.outcomes) (along f s es w.does.outcomes) (found_reads g f fit t.found)
+            (row_moves g f fit s new.server.state t.ready w.answer w.does.outcomes w.may w.does.run)
+            (behind_all g f fit es w.does.outcomes);
+      }
+
+  turn_notes : (soon : Bool) (old new : Loop S R) (t : IsTurn told holds soon old new) → new.server.notes ≡
+      notes_along old.server.state (one soon old new t).events (one soon old new t).outcomes
+  turn_notes soon old new t = noted_by_one old.server.state new.server
+      (row_events old.server.state t.ready t.row.answer) t.row.does.outcomes t.row.does.noted
+
+  -- No event happens.
+  abbrev nothing_happens : (old new : Loop S R) (since : List Call) → new.server.state ≡ old.server.state →
+      Follows (told old.sockets).calls since (told new.sockets).calls →
+      Continues (holds old.recorder) [] (holds new.recorder) →
+      ((g : Call → List ℕ) (f : ServerState → Event → List ℕ) → Fit g f → flat_map g since ≡ []) → Between old new
+  nothing_happens old new since same follows recorded moves = record {
+    since = since;
     events = [];
     outcomes = [];
-    follows = subst (λ (r : Running S R). Follows (told old.sockets).calls []
-        (told r.sockets).calls) (sym same) (follows_nothing (told old.sockets).calls);
-    run = ap (λ (r : Running S R). r.server.state) same;
-    recorded = subst (λ (r : Running S R). Continues (holds old.kept) [] (holds r.kept)) (sym same)
-        (continues_nothing (holds old.kept));
-    moves = λ g f fit. refl;
+    follows = follows;
+    run = same;
+    reads = All-nil IsReadAtOnce;
+    recorded = recorded;
+    moves = moves;
   }
 
-  abbrev pub joined : (old mid new : Running S R) → Between old mid → Between mid new → Between old new
-  joined old mid new x y = both_are_moved old.server.state mid.server.state new.server.state
-      (told old.sockets) (told mid.sockets) (told new.sockets) (holds old.kept) (holds mid.kept) (holds new.kept) x y
+  abbrev pub still : (old new : Loop S R) → new ≡ old → Between old new
+  still old new same = nothing_happens old new [] (ap (λ (r : Loop S R). r.server.state) same)
+      (subst (λ (r : Loop S R). Follows (told old.sockets).calls [] (told r.sockets).calls) (sym same)
+      (follows_nothing (told old.sockets).calls))
+      (subst (λ (r : Loop S R). Continues (holds old.recorder) [] (holds r.recorder)) (sym same)
+      (continues_nothing (holds old.recorder))) (λ g f fit. refl)
 
-  abbrev pub one : (old new : Running S R) →
-      IsTurn (before_turn told holds old) (seen told holds new) → Between old new
-  one old new t = turn_is_moved (before_turn told holds old) (seen told holds new) t
+  abbrev pub joined : (old mid new : Loop S R) → Between old mid → Between mid new → Between old new
+  joined old mid new x y = record {
+    since = x.since ++ y.since;
+    events = x.events ++ y.events;
+    outcomes = x.outcomes ++ y.outcomes;
+    follows = follows_joins (told old.sockets).calls (told mid.sockets).calls (told new.sockets).calls
+        x.since y.since x.follows y.follows;
+    run = run_joins old.server.state mid.server.state new.server.state x.events y.events x.outcomes
+        y.outcomes x.run y.run;
+    reads = all_joins IsReadAtOnce x.events y.events x.reads y.reads;
+    recorded = continues_joins (holds old.recorder) (holds mid.recorder) (holds new.recorder) x.events
+        y.events x.recorded y.recorded;
+    moves = λ g f fit. flat_map-append g x.since y.since ∙
+        ap (λ v. v ++ flat_map g y.since) (x.moves g f fit) ∙
+        ap (λ v. along f old.server.state x.events x.outcomes ++ v) (y.moves g f fit) ∙
+        sym (along_joins f old.server.state mid.server.state x.events y.events x.outcomes y.outcomes x.run);
+  }
 
-  turns_are_moved : (n : ℕ) (old new : Running S R) → Turns told holds old n new → Between old new
+  open_lawfully : (old new : Loop S R) (m : Between old new) → All OpensLawfully m.events
+  open_lawfully old new m =
+      opens_lawfully old.server.state new.server.state m.events m.outcomes m.run
+      (sym (m.moves (λ x. []) (λ s e. unlawful (opened_from e)) lawful_fits) ∙ none_given m.since)
+
+  turns_are_moved : (n : ℕ) (old new : Loop S R) → Turns told holds old n new → Between old new
   turns_are_moved zero old new t = still old new t
-  turns_are_moved (suc n) old new t = joined old t.0 new (one old t.0 t.1) (turns_are_moved n t.0 new t.2)
+  turns_are_moved (suc n) old new (mid, (soon, turn, rest)) =
+      joined old mid new (one soon old mid turn) (turns_are_moved n mid new rest)
 
   -- The turn that fails has no event.
-  abbrev end_is_moved : (n : ℕ) (old : Running S R) (result : Result (Unit {0}) LoopFault)
-      (new : Running S R) → Ends told holds n old result new → Between old new
+  abbrev end_is_moved : (n : ℕ) (old : Loop S R) (result : Result (Unit {0}) LoopFault)
+      (new : Loop S R) → Ends told holds n old result new → Between old new
   end_is_moved n old (Ok u) new e = still old new e.1
-  end_is_moved n old (Err fault.Ready) new e =
-      nothing_is_moved old.server.state new.server.state (told old.sockets) (told new.sockets)
-      (holds old.kept) (holds new.kept) (ap (λ (r : RunningServer). r.state) e.0.server) e.1.follows e.0.recorded
-  end_is_moved n old (Err fault.Accept) new e = record {
-    since = Readied Newcomer ∷ [];
-    events = [];
-    outcomes = [];
-    follows = follows_joins (told old.sockets).calls e.1.0.calls (told new.sockets).calls
-        (Readied Newcomer ∷ []) [] e.1.1.follows e.1.2.follows;
-    run = ap (λ (r : RunningServer). r.state) e.0.server;
-    recorded = e.0.recorded;
-    moves = λ g f fit. append-nil (g (Readied Newcomer)) ∙ fit.readied Newcomer;
-  }
+  end_is_moved n old (Err fault.Ready) new (soon, (left, looked)) =
+      nothing_happens old new [] (ap (λ (r : RunningServer). r.state) left.server) looked.follows
+      left.recorded (λ g f fit. refl)
+  end_is_moved n old (Err fault.Accept) new (soon, (left, (mid, found, accepts))) =
+      nothing_happens old new (finding found ++ []) (ap (λ (r : RunningServer). r.state) left.server)
+      (follows_joins (told old.sockets).calls (told mid).calls (told new.sockets).calls (finding found) []
+      (found_follows found) accepts.follows) left.recorded
+      (λ g f fit. flat_map-append g (finding found) [] ∙ append-nil (flat_map g (finding found)) ∙
+      found_reads g f fit found)
 
-  pub all_are_moved : (old : Running S R) (result : Result (Unit {0}) LoopFault) (new : Running S R)
+  pub all_are_moved : (old : Loop S R) (result : Result (Unit {0}) LoopFault) (new : Loop S R)
       → TurnsUpTo told holds old result new → Between old new
-  all_are_moved old result new t =
-      joined old t.1.0 new (turns_are_moved t.0 old t.1.0 t.1.1) (end_is_moved t.0 t.1.0 result new t.1.2)
+  all_are_moved old result new (n, (mid, turns, ends)) =
+      joined old mid new (turns_are_moved n old mid turns) (end_is_moved n mid result new ends)
 
   -- What is shown of the turns is what their events noted.
-  record IsNotedRun (old new : Running S R) (notes : List Note) : Type 0 where
+  record IsNotedRun (old new : Loop S R) (notes : List Note) : Type 0 where
     moved : Between old new
     noted : notes ≡ notes_along old.server.state moved.events moved.outcomes
 
-  module _ {W : Type 0} (shows : W → Running S R → W → Type 0) where
-    shown_are_noted : (n : ℕ) (old : Running S R) (watcher : W) (notes : List Note)
-        (new : Running S R) (last : W) →
-        ShownTurns told holds shows old watcher n notes new last → IsNotedRun old new notes
-    shown_are_noted zero old watcher notes new last t = record { moved = still old new t.0; noted = t.1.1 }
-    shown_are_noted (suc n) old watcher notes new last (mid, (next, (more, all, turn, shown, later))) =
-        let first = one old mid turn in
-        let rest = shown_are_noted n mid next more new last later in
+  module _ {W : Type 0} (shows : W → Loop S R → Bool → W → Type 0) where
+    shown_are_noted : (n : ℕ) (soon : Bool) (old : Loop S R) (watcher : W) (notes : List Note)
+        (again : Bool) (new : Loop S R) (last : W) →
+        ShownTurns told holds shows soon old watcher n notes again new last → IsNotedRun old new notes
+    shown_are_noted zero soon old watcher notes again new last (is, same, kept, none) =
+        record { moved = still old new same; noted = none }
+    shown_are_noted (suc n) soon old watcher notes again new last
+        (mid, (next, (then_soon, (more, all, turn, shown, rest)))) =
+        let first = one soon old mid turn in
+        let after = shown_are_noted n then_soon mid next more again new last rest in
         record {
-          moved = joined old mid new first rest.moved;
-          noted = all ∙ ap₂ (λ xs ys. xs ++ ys)
-              (turn_notes old.server.state (told old.sockets) (holds old.kept) (seen told holds mid) turn) rest.noted
-              ∙ sym (notes_join old.server.state mid.server.state first.events rest.moved.events
-              first.outcomes rest.moved.outcomes first.run);
+          moved = joined old mid new first after.moved;
+          noted = all ∙ ap₂ (λ xs ys. xs ++ ys) (turn_notes soon old mid turn) after.noted
+              ∙ sym (notes_join old.server.state mid.server.state first.events after.moved.events
+              first.outcomes after.moved.outcomes first.run);
         }
 
     -- They are turns.
-    pub turns_shown : (n : ℕ) (old : Running S R) (watcher : W) (notes : List Note)
-        (new : Running S R) (last : W) →
-        ShownTurns told holds shows old watcher n notes new last → Turns told holds old n new
-    turns_shown zero old watcher notes new last t = t.0
-    turns_shown (suc n) old watcher notes new last (mid, (next, (more, all, one, shown, later))) =
-        (mid, one, turns_shown n mid next more new last later)
+    pub turns_shown : (n : ℕ) (soon : Bool) (old : Loop S R) (watcher : W) (notes : List Note)
+        (again : Bool) (new : Loop S R) (last : W) →
+        ShownTurns told holds shows soon old watcher n notes again new last → Turns told holds old n new
+    turns_shown zero soon old watcher notes again new last (is, same, kept, none) = same
+    turns_shown (suc n) soon old watcher notes again new last
+        (mid, (next, (then_soon, (more, all, turn, shown, rest)))) =
+        (mid, (soon, turn, turns_shown n then_soon mid next more again new last rest))
 
     -- One more turn after them.
-    next_shown : (n : ℕ) (old : Running S R) (watcher : W) (notes : List Note) (mid : Running S R)
-        (next : W) (new : Running S R) (last : W) → ShownTurns told holds shows old watcher n notes mid next
-        → IsTurn (before_turn told holds mid) (seen told holds new) → shows next new last →
-        ShownTurns told holds shows old watcher (suc n) (notes ++ new.server.notes) new last
-    next_shown zero old watcher notes mid next new last t turn h = (
+    next_shown : (n : ℕ) (soon : Bool) (old : Loop S R) (watcher : W) (notes : List Note) (again : Bool)
+        (mid : Loop S R) (next : W) (new : Loop S R) (says : Bool) (last : W)
+        → ShownTurns told holds shows soon old watcher n notes again mid next
+        → IsTurn told holds again mid new → shows next new says last →
+        ShownTurns told holds shows soon old watcher (suc n) (notes ++ new.server.notes) says new last
+    next_shown zero soon old watcher notes again mid next new says last (is, same, kept, none) turn h = (
       new,
       (
         last,
         (
-          [],
-          ap (λ ns. ns ++ new.server.notes) t.1.1 ∙ sym (append-nil new.server.notes),
-          subst (λ (r : Running S R). IsTurn (before_turn told holds r) (seen told holds new)) t.0 turn,
-          subst (λ w. shows w new last) t.1.0 h,
-          (refl, (refl, refl)),
+          says,
+          (
+            [],
+            ap (λ ns. ns ++ new.server.notes) none ∙ sym (append-nil new.server.notes),
+            subst (λ (r : Loop S R). IsTurn told holds soon r new) same
+                (subst (λ b. IsTurn told holds b mid new) is turn),
+            subst (λ w. shows w new says last) kept h,
+            (refl, refl, refl, refl),
+          ),
         ),
       ),
     )
-    next_shown (suc n) old watcher notes mid next new last (first, (w, (more, all, one, shown, later))) turn h = (
+    next_shown (suc n) soon old watcher notes again mid next new says last
+        (first, (w, (then_soon, (more, all, its, shown, rest)))) turn h = (
       first,
       (
         w,
         (
-          more ++ new.server.notes,
-          ap (λ ns. ns ++ new.server.notes) all ∙
-              append_assoc first.server.notes more new.server.notes,
-          one,
-          shown,
-          next_shown n first w more mid next new last later turn h,
+          then_soon,
+          (
+            more ++ new.server.notes,
+            ap (λ ns. ns ++ new.server.notes) all ∙
+                append_assoc first.server.notes more new.server.notes,
+            its,
+            shown,
+            next_shown n then_soon first w more again mid next new says last rest turn h,
+          ),
         ),
       ),
     )
 
-    pub shown_then : (n : ℕ) (old : Running S R) (watcher : W) (notes : List Note)
-        (mid : Running S R) (next : W) (new : Running S R) (last : W) →
-        ShownTurns told holds shows old watcher n notes mid next
-        → IsTurn (before_turn told holds mid) (seen told holds new) → shows next new last →
-        ShownTurns told holds shows old watcher (n + 1) (notes ++ new.server.notes) new last
-    shown_then n old watcher notes mid next new last t turn h =
-        subst (λ k. ShownTurns told holds shows old watcher k (notes ++ new.server.notes) new last)
-        (sym (add-one n)) (next_shown n old watcher notes mid next new last t turn h)
+    pub shown_then : (n : ℕ) (soon : Bool) (old : Loop S R) (watcher : W) (notes : List Note) (again : Bool)
+        (mid : Loop S R) (next : W) (new : Loop S R) (says : Bool) (last : W)
+        → ShownTurns told holds shows soon old watcher n notes again mid next
+        → IsTurn told holds again mid new → shows next new says last →
+        ShownTurns told holds shows soon old watcher (n + 1) (notes ++ new.server.notes) says new last
+    shown_then n soon old watcher notes again mid next new says last t turn h =
+        subst (λ k. ShownTurns told holds shows soon old watcher k (notes ++ new.server.notes) says new last)
+        (sym (add-one n)) (next_shown n soon old watcher notes again mid next new says last t turn h)
 
-    -- They are one run.
-    pub is_one_run : (n : ℕ) (old : Running S R) (watcher : W) (notes : List Note)
-        (mid : Running S R) (last : W) (result : Result (Unit {0}) LoopFault) (new : Running S R)
-        → ShownTurns told holds shows old watcher n notes mid last →
-        Ends told holds n mid result new → IsOneRun told holds old notes new
-    is_one_run n old watcher notes mid last result new shown ends =
-        let all = shown_are_noted n old watcher notes mid last shown in
+    -- They are what serving does.
+    pub serves : (n : ℕ) (old : Loop S R) (watcher : W) (notes : List Note) (again : Bool)
+        (mid : Loop S R) (last : W) (result : Result (Unit {0}) LoopFault) (new : Loop S R)
+        → ShownTurns told holds shows true old watcher n notes again mid last →
+        Ends told holds n mid result new → Serves told holds shows old watcher result new
+    serves n old watcher notes again mid last result new shown ends =
+        let all = shown_are_noted n true old watcher notes again mid last shown in
         let end = end_is_moved n mid result new ends in
         let both = joined old mid new all.moved end in
         record {
-          events = both.events;
-          outcomes = both.outcomes;
-          run = both.run;
-          opens = open_lawfully old.server.state new.server.state (told old.sockets)
-              (told new.sockets) (holds old.kept) (holds new.kept) both;
-          recorded = both.recorded;
-          noted = all.noted ∙ sym (append-nil _) ∙
-              ap (λ ns. notes_along old.server.state all.moved.events all.moved.outcomes ++ ns)
-              (sym (none_noted n mid result new ends))
-              ∙ sym (notes_join old.server.state mid.server.state all.moved.events end.events
-              all.moved.outcomes end.outcomes all.moved.run);
+          turns = (n, (mid, turns_shown n true old watcher notes again mid last shown, ends));
+          notes = notes;
+          again = again;
+          last = last;
+          shown = shown;
+          run = record {
+            events = both.events;
+            outcomes = both.outcomes;
+            run = both.run;
+            opens = open_lawfully old new both;
+            reads = both.reads;
+            recorded = both.recorded;
+            noted = all.noted ∙ sym (append-nil _) ∙
+                ap (λ ns. notes_along old.server.state all.moved.events all.moved.outcomes ++ ns)
+                (sym (none_noted n mid result new ends))
+                ∙ sym (notes_join old.server.state mid.server.state all.moved.events end.events
+                all.moved.outcomes end.outcomes all.moved.run);
+          };
         }
       where
-        none_noted : (n : ℕ) (mid : Running S R) (result : Result (Unit {0}) LoopFault)
-            (new : Running S R) (e : Ends told holds n mid result new)
+        none_noted : (n : ℕ) (mid : Loop S R) (result : Result (Unit {0}) LoopFault)
+            (new : Loop S R) (e : Ends told holds n mid result new)
             → notes_along mid.server.state (end_is_moved n mid result new e).events
             (end_is_moved n mid result new e).outcomes ≡ []
         none_noted n mid (Ok u) new e = refl
@@ -440,7 +502,7 @@ every_byte_is_moved_once {S} {R} told holds =
     λ old new result before now turns reported reported_after. from old new before now
     (all_are_moved told holds old result new turns) reported reported_after
   where
-    from : (old new : Running S R) (before now : List Call) → Between told holds old new →
+    from : (old new : Loop S R) (before now : List Call) → Between told holds old new →
         (told old.sockets).calls ≡ Some before → (told new.sockets).calls ≡ Some now
         → (since : List Call) × ((events : List Event) ×
         ((outcomes : List Outcome) × (now ≡ before ++ since) ×

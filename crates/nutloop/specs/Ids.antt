@@ -4,7 +4,10 @@ use Rattle.std.specs.Prelude.{if◌then◌else◌}
 use Rattle.std.specs.Int.{w128, from_be_bytes}
 use Rattle.std.specs.Io.KnownBytes.{Consumes}
 use Rattle.nuttracking.specs.declared.limits.TheConstants.{ID_LIMIT}
+use Rattle.nutloop.specs.declared.ids.Ids.{Ids}
 use Rattle.nutloop.specs.declared.ids.TheConstants.{ID_SIZE}
+use Rattle.nutloop.specs.declared.sockets.Ready.{Ready}
+use Rattle.nutloop.specs.declared.sockets.Ready.TheVariants.{Id}
 
 -- The id of the next sixteen bytes that a reader has left, the first of them the highest. A read
 -- that fails, or ends before them, gives none.
@@ -28,3 +31,14 @@ more_due seconds due = min (due + seconds) ID_LIMIT
 -- How many are due after a tick: all that are missing where that is asked for.
 abbrev pub due_after : Bool → ℕ → ℕ → ℕ → ℕ
 due_after refills missing seconds due = if refills then missing else more_due seconds due
+
+-- The id that is handed in is the next one of the source.
+abbrev pub HandsIn : {F : Type 0} → (F → Option (List ℕ)) → Option (Ids F) → ℕ → Option (Ids F)
+    → Type 0
+HandsIn remaining (Some old) id (Some new) =
+    GivesNext remaining old.due old.bytes (Some id) new.due new.bytes
+HandsIn remaining _ id _ = ⊥
+
+abbrev pub id_in : Ready → Option ℕ
+id_in (Id id) = Some id
+id_in _ = None

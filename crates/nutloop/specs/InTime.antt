@@ -21,11 +21,11 @@ use Rattle.nutcore.specs.Sound.{IsSound}
 use Rattle.nutcore.specs.Step.{Step, offered}
 use Rattle.nutloop.specs.declared.over_mio.pass.Stop.{Stop}
 use Rattle.nutloop.specs.declared.sockets.Ready.TheVariants.{Read, Write}
-use Rattle.nutloop.specs.Fairness.{FromLookToLook, IsOneOf, Turn}
+use Rattle.nutloop.specs.Fairness.{AnyTurns, FromLookToLook, IsOneOf, Turn}
 use Rattle.nutloop.specs.Pass.{number}
-use Rattle.nutloop.specs.Serving.{Running}
+use Rattle.nutloop.specs.declared.turns.Loop.{Loop}
 use Rattle.nutloop.specs.Sockets.{Told}
-use Rattle.nutloop.specs.Turn.{IsTurn, LoopState, gave, took}
+use Rattle.nutloop.specs.Turn.{IsTurn, gave, took}
 
 -- The stop is ready at each of these turns up to its own, and at the next look if it has none.
 abbrev pub IsReadyUpToItsTurn : Stop → List (Option Turn) → Bool → Type 0
@@ -34,16 +34,6 @@ IsReadyUpToItsTurn s (None ∷ ts) at_look = IsReadyUpToItsTurn s ts at_look
 IsReadyUpToItsTurn s (Some t ∷ ts) at_look =
     (t.may s ≡ true) × ((t.visited ≡ s) ⊎ IsReadyUpToItsTurn s ts at_look)
 
--- The turn reads these bytes of the peer.
-abbrev pub Reads : {old new : LoopState} → Peer → List ℕ → IsTurn old new → Type 0
-Reads p bytes turn = (turn.ready ≡ Read p) × (turn.row.answer ≡ gave bytes)
-
--- The client takes all that it is offered in the turn.
-abbrev pub TakesAll : {old new : LoopState} → ℕ → IsTurn old new → Type 0
-TakesAll {old} c turn =
-    (turn.ready ≡ Write (Client c))
-    × (turn.row.answer ≡ took (length (offered (session c old.server.state))))
-
 -- One server leads to another.
 pub record LeadsTo (old new : ServerState) : Type 0 where
   pub events : List Event
@@ -51,14 +41,19 @@ pub record LeadsTo (old new : ServerState) : Type 0 where
   pub run : Run old events outcomes new
 
 module _ {S R : Type 0} (told : S → Told) (holds : R → Recorded) where
-  abbrev pub AnyTurns : Running S R → List (Option Turn) → Running S R → Type 0
-  AnyTurns old [] new = new ≡ old
-  AnyTurns old (t ∷ ts) new =
-      (looks : Bool)
-      × ((mid : Running S R) × IsOneOf told holds looks old t mid × AnyTurns mid ts new)
+  -- The turn reads these bytes of the peer.
+  abbrev pub Reads : {soon : Bool} {old new : Loop S R} → Peer → List ℕ → IsTurn told holds soon old new
+      → Type 0
+  Reads p bytes turn = (turn.ready ≡ Read p) × (turn.row.answer ≡ gave bytes)
+
+  -- The client takes all that it is offered in the turn.
+  abbrev pub TakesAll : {soon : Bool} {old new : Loop S R} → ℕ → IsTurn told holds soon old new → Type 0
+  TakesAll {soon} {old} c turn =
+      (turn.ready ≡ Write (Client c))
+      × (turn.row.answer ≡ took (length (offered (session c old.server.state))))
 
   -- One of the turns is had at this stop.
-  pub record IsHadAt (s : Stop) (old : Running S R) (turns : List (Option Turn)) (new : Running S R)
+  pub record IsHadAt (s : Stop) (old : Loop S R) (turns : List (Option Turn)) (new : Loop S R)
       : Type 0 where
     pub before : List (Option Turn)
     pub own : Turn
@@ -66,15 +61,15 @@ module _ {S R : Type 0} (told : S → Told) (holds : R → Recorded) where
     pub all : turns ≡ before ++ Some own ∷ after
     pub visited : own.visited ≡ s
     pub looks : Bool
-    pub from : Running S R
-    pub to : Running S R
-    pub earlier : AnyTurns old before from
+    pub from : Loop S R
+    pub to : Loop S R
+    pub earlier : AnyTurns told holds old before from
     pub one : IsOneOf told holds looks from (Some own) to
-    pub later : AnyTurns to after new
+    pub later : AnyTurns told holds to after new
 
   -- Two stops have their turns one after the other, and then a third, if it is ready from then on.
-  pub record AreHadInOrder (first second third : Stop) (old : Running S R)
-      (turns : List (Option Turn)) (at_look : Bool) (new : Running S R) : Type 0 where
+  pub record AreHadInOrder (first second third : Stop) (old : Loop S R)
+      (turns : List (Option Turn)) (at_look : Bool) (new : Loop S R) : Type 0 where
     pub reports : IsHadAt first old turns new
     pub asks : IsHadAt second reports.to reports.after new
     pub takes : IsReadyUpToItsTurn third asks.after at_look → IsHadAt third asks.to asks.after new
@@ -92,34 +87,34 @@ module _ {S R : Type 0} (told : S → Told) (holds : R → Recorded) where
         (taken c answered later.events later.outcomes ++ offered (session c taking))
 
   -- So many looks, one after another, and what the turns after each are.
-  abbrev pub EachLook : (Running S R → List (Option Turn) → Bool → Running S R → Type 0) → Stop → ℕ
-      → Running S R → Running S R → Type 0
+  abbrev pub EachLook : (Loop S R → List (Option Turn) → Bool → Loop S R → Type 0) → Stop → ℕ
+      → Loop S R → Loop S R → Type 0
   EachLook P s zero old new = new ≡ old
   EachLook P s (suc n) old new =
-      (mid : Running S R) × ((turns : List Turn)
+      (mid : Loop S R) × ((turns : List Turn)
       × ((looks : FromLookToLook told holds old turns mid)
-      × P old (looks.first ∷ looks.later) (looks.is.may mid.server.state s) mid
+      × P old (looks.from.first ∷ looks.from.later) (looks.is.may mid.server.state s) mid
       × EachLook P s n mid new))
 
   pub record WhoeverAsksLearnsInTime : Type 0 where
     -- From one look to the next: stops that were ready at the first look have their turns in the
     -- order of their numbers.
-    pub order : (old new : Running S R) (turns : List Turn)
+    pub order : (old new : Loop S R) (turns : List Turn)
         (looks : FromLookToLook told holds old turns new) (first second third : Stop)
         → number first < number second → number second < number third
-        → IsReadyUpToItsTurn first (looks.first ∷ looks.later)
+        → IsReadyUpToItsTurn first (looks.from.first ∷ looks.from.later)
         (looks.is.may new.server.state first)
-        → IsReadyUpToItsTurn second (looks.first ∷ looks.later)
+        → IsReadyUpToItsTurn second (looks.from.first ∷ looks.from.later)
         (looks.is.may new.server.state second)
-        → AreHadInOrder first second third old (looks.first ∷ looks.later)
+        → AreHadInOrder first second third old (looks.from.first ∷ looks.from.later)
         (looks.is.may new.server.state third) new
     -- A stop that is ready at so many looks has as many turns.
-    pub again : (n : ℕ) (old new : Running S R) (s : Stop)
+    pub again : (n : ℕ) (old new : Loop S R) (s : Stop)
         → EachLook (λ before turns at_look after. IsReadyUpToItsTurn s turns at_look) s n old new
         → EachLook (λ before turns at_look after. IsHadAt s before turns after) s n old new
     -- So where a peer reports in the first turn, an idle client asks one line in the second, for
     -- which memory isn't refused, and takes what it is offered in the third.
-    pub answer : (old new : Running S R) (turns : List (Option Turn)) (first second third : Stop)
+    pub answer : (old new : Loop S R) (turns : List (Option Turn)) (first second third : Stop)
         (reports : IsHadAt first old turns new)
         (asks : IsHadAt second reports.to reports.after new)
         (takes : IsHadAt third asks.to asks.after new)

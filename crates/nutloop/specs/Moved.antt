@@ -19,7 +19,8 @@ use Rattle.nutloop.specs.declared.fault.LoopFault.{LoopFault}
 use Rattle.nutcore.specs.DriverOrders.{owed_to_driver}
 use Rattle.nutcore.specs.Recording.{Recorded}
 use Rattle.nutloop.specs.Sockets.{Told}
-use Rattle.nutloop.specs.Serving.{Running, TurnsUpTo}
+use Rattle.nutloop.specs.declared.turns.Loop.{Loop}
+use Rattle.nutloop.specs.Serving.{TurnsUpTo}
 
 -- It is this client, or this driver.
 abbrev pub is_client : ℕ → Peer → Bool
@@ -77,7 +78,7 @@ pub record AreMoved (since : List Call) (old : ServerState) (events : List Event
 -- Over any turns of serving, with sockets that report their calls.
 abbrev pub EveryByteIsMovedOnce : {S R : Type 0} → (S → Told) → (R → Recorded) → Type 0
 EveryByteIsMovedOnce {S} {R} told holds =
-    (old new : Running S R) (result : Result (Unit {0}) LoopFault) (before now : List Call)
+    (old new : Loop S R) (result : Result (Unit {0}) LoopFault) (before now : List Call)
     → TurnsUpTo told holds old result new
     → (told old.sockets).calls ≡ Some before → (told new.sockets).calls ≡ Some now
     → (since : List Call)

@@ -6,7 +6,7 @@ use Rattle.nutloop.specs.declared.over_mio.door.TheConstants.{DOOR_LIMIT}
 use Rattle.nutloop.specs.declared.over_mio.places.TheConstants.{GIVES_WAY_AFTER}
 use Rattle.nutloop.specs.declared.over_mio.pass.TheConstants.{STOPS, TURNS_PER_LOOK}
 use Rattle.nutloop.specs.declared.serving.TheConstants.{TURN_LIMIT}
-use Rattle.nutloop.specs.declared.turns.TheConstants.{DRIVER_READ_LIMIT}
+use Rattle.nutcore.specs.declared.TheConstants.{DRIVER_READ_LIMIT}
 use Rattle.nutloop.specs.declared.fault.LoopFault.{LoopFault}
 use Rattle.nutloop.specs.declared.fault.LoopFault.TheVariants.{Ready, Accept}
 

@@ -58,7 +58,11 @@ GivesTurn s sockets old answer new =
 abbrev pub passing_of : {R F : Type 0} → MioSockets R F → Passing
 passing_of sockets =
     record {
-      pass = sockets.pass;
+      so_far = record {
+        pass = sockets.pass;
+        second = sockets.second;
+        ids = option_map_or (λ ids. ids.due) sockets.ids 0;
+      };
       may = λ s. may_at s sockets;
       ready_at = λ s. turn_at s sockets;
     }

@@ -6,11 +6,14 @@ use Rattle.std.specs.Prelude.{slice_get}
 use Rattle.std.specs.Option.{option_and_then, option_map_or}
 use Rattle.nutusers.specs.UpsList.{id_at}
 use Rattle.nutusers.specs.declared.ups_list.UpsId.{UpsId}
-use Rattle.nutcore.specs.Server.{ServerState}
+use Rattle.nutcore.specs.Calls.{standing_of}
+use Rattle.nutcore.specs.Server.{ServerState, session}
+use Rattle.nutcore.specs.declared.server.status.Standing.{Standing}
 use Rattle.nutcore.specs.DriverHistory.{has_driver}
 use Rattle.nutcore.specs.DriverOrders.{owed_to_driver}
 use Rattle.nutloop.specs.declared.over_mio.clients.Client.{Client}
 use Rattle.nutloop.specs.declared.over_mio.drivers.Driver.{Driver}
+use Rattle.nutloop.specs.declared.over_mio.socket.Socket.{Socket}
 use Rattle.nutloop.specs.declared.over_mio.pass.Pass.{Pass}
 use Rattle.nutloop.specs.declared.over_mio.pass.Stop.{Stop}
 use Rattle.nutloop.specs.declared.over_mio.pass.Stop.TheVariants as stop
@@ -20,23 +23,29 @@ use Rattle.nutloop.specs.declared.over_mio.pass.TheConstants.{CLIENT_READS, CLIE
 use Rattle.nutloop.specs.declared.over_mio.pass.TheConstants.{DRIVER_READS, DRIVER_WRITES, STOPS}
 use Rattle.nutloop.specs.declared.over_mio.pass.TheConstants.{TURNS_PER_LOOK}
 
--- A client that is owed something is read where its session has room, unless it has ended. One that
--- is finished is written to, which closes it.
-abbrev pub client_may : Way → Client → Bool
-client_may Read x =
-    x.socket.readable
-    && (if nat_lt 0 x.standing.offered
-    then nat_lt 0 x.standing.room && not x.socket.ended
-    else not x.standing.is_finished)
-client_may Write x =
-    if nat_lt 0 x.standing.offered then x.socket.writable else x.standing.is_finished
+-- A client that is owed something is read where its session has room, unless its socket has ended.
+-- One that is finished is written to, which closes it.
+abbrev pub goes : {T : Type 0} → Way → Socket T → Standing → Bool
+goes Read socket standing =
+    socket.readable
+    && (if nat_lt 0 standing.offered
+    then nat_lt 0 standing.room && not socket.ended
+    else not standing.is_finished)
+goes Write socket standing =
+    if nat_lt 0 standing.offered then socket.writable else standing.is_finished
+
+-- A client may be read or written to by its socket and by what the server has of its session.
+unfoldable pub client_may : ServerState → Way → Client → Bool
+client_may s way x =
+    option_map_or (λ session. goes way x.socket (standing_of session)) (session x.id s) false
 
 -- The client at a place.
 abbrev pub client_in : List (Option Client) → ℕ → Option Client
 client_in clients place = option_and_then (λ slot. slot) (slice_get clients place)
 
-abbrev pub client_at : Way → List (Option Client) → ℕ → Bool
-client_at way clients place = option_map_or (client_may way) (client_in clients place) false
+abbrev pub client_at : ServerState → Way → List (Option Client) → ℕ → Bool
+client_at s way clients place =
+    option_map_or (client_may s way) (client_in clients place) false
 
 -- A driver that is connected has a turn to report that, and from then on where there may be
 -- something to read, or it may take what it is owed.
@@ -55,7 +64,7 @@ driver_at s way drivers place =
 abbrev pub may : ServerState → Bool → List Driver → List (Option Client) → Stop → Bool
 may s is_knocked_at drivers clients stop.Listener = is_knocked_at
 may s is_knocked_at drivers clients (stop.Driver place way) = driver_at s way drivers place
-may s is_knocked_at drivers clients (stop.Client place way) = client_at way clients place
+may s is_knocked_at drivers clients (stop.Client place way) = client_at s way clients place
 
 -- The first place from this one on at which something may be done, if there is one.
 abbrev pub FirstFrom : (ℕ → Bool) → ℕ → Option ℕ → Type 0
@@ -84,6 +93,11 @@ number (stop.Client place Write) = CLIENT_WRITES + place
 abbrev pub WasVisited : Pass → Stop → Type 0
 WasVisited pass s = number s < pass.next
 
+-- A driver is read there.
+abbrev pub reads_driver : Stop → Bool
+reads_driver (stop.Driver place Read) = true
+reads_driver _ = false
+
 -- A visit has one turn, at a stop that wasn't visited before and at which something may be done. Or
 -- the pass is over. Of the others nothing could be done at any that is visited from now on.
 pub record HasTurn (may : Stop → Bool) (old : Pass) (visited : Stop) (new : Pass) : Type 0 where
@@ -93,6 +107,7 @@ pub record HasTurn (may : Stop → Bool) (old : Pass) (visited : Stop) (new : Pa
   pub next : new.next ≡ number visited + 1
   pub within : new.next ≤ STOPS
   pub had : new.had_turn ≡ true
+  pub was_driver_read : new.was_driver_read ≡ (old.was_driver_read || reads_driver visited)
   pub turns : new.turns ≡ min (old.turns + 1) (2 ^ 32 - 1)
 
 pub record IsOver (may : Stop → Bool) (old new : Pass) : Type 0 where

@@ -19,7 +19,8 @@ use Rattle.nutloop.specs.declared.sockets.Call.{Call}
 use Rattle.nutloop.specs.declared.fault.LoopFault.{LoopFault}
 use Rattle.nutcore.specs.Recording.{Recorded}
 use Rattle.nutloop.specs.Sockets.{Told}
-use Rattle.nutloop.specs.Serving.{Running, TurnsUpTo}
+use Rattle.nutloop.specs.declared.turns.Loop.{Loop}
+use Rattle.nutloop.specs.Serving.{TurnsUpTo}
 use Rattle.nutloop.specs.Moved.{is_client, is_driver, bytes_given, bytes_taken}
 
 -- Of one client and what was executed for it: all that its socket gave is the executed lines, in
@@ -49,7 +50,7 @@ pub record AreAnswered (since : List Call) (old new : ServerState) : Type 0 wher
 -- Over any turns of serving from a new server, with sockets that report their calls.
 abbrev pub WhatASocketGaveIsAnswered : {S R : Type 0} → (S → Told) → (R → Recorded) → Type 0
 WhatASocketGaveIsAnswered {S} {R} told holds =
-    (old new : Running S R) (result : Result (Unit {0}) LoopFault) (before now : List Call)
+    (old new : Loop S R) (result : Result (Unit {0}) LoopFault) (before now : List Call)
     → IsNewServer old.server.state → TurnsUpTo told holds old result new
     → (told old.sockets).calls ≡ Some before → (told new.sockets).calls ≡ Some now
     → (since : List Call) × (now ≡ before ++ since)
@@ -79,7 +80,7 @@ pub record DriversAreServedByTheirSockets (since : List Call) (old new : ServerS
 -- Over any turns of serving from a sound server, as each is, with sockets that report their calls.
 abbrev pub ADriverIsServedByItsSocket : {S R : Type 0} → (S → Told) → (R → Recorded) → Type 0
 ADriverIsServedByItsSocket {S} {R} told holds =
-    (old new : Running S R) (result : Result (Unit {0}) LoopFault) (before now : List Call)
+    (old new : Loop S R) (result : Result (Unit {0}) LoopFault) (before now : List Call)
     → IsSound old.server.state → TurnsUpTo told holds old result new
     → (told old.sockets).calls ≡ Some before → (told new.sockets).calls ≡ Some now
     → (since : List Call) × (now ≡ before ++ since)

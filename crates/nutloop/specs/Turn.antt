@@ -9,14 +9,13 @@ use Rattle.nutcore.specs.declared.event.Event.{Event}
 use Rattle.nutcore.specs.declared.event.Event.TheVariants as event
 use Rattle.nutcore.specs.declared.event.Outcome.{Outcome}
 use Rattle.nutcore.specs.declared.event.Outcome.TheVariants as outcome
-use Rattle.nutcore.specs.declared.event.Fault.{Fault}
 use Rattle.nutcore.specs.declared.event.Fault.TheVariants.{LineTooLong, Memory}
 use Rattle.nutcore.specs.declared.event.Peer.{Peer}
 use Rattle.nutcore.specs.declared.event.Peer.TheVariants.{Client, Driver}
 use Rattle.nutcore.specs.Server.{ServerState, session}
-use Rattle.nutcore.specs.Step.{offered}
+use Rattle.nutcore.specs.Step.{Step, offered}
 use Rattle.nutcore.specs.Run.{Run}
-use Rattle.nutcore.specs.Cost.{RunningServer}
+use Rattle.nutcore.specs.Cost.{RunningServer, begun}
 use Rattle.nutcore.specs.Notes.{notes_of}
 use Rattle.nutcore.specs.Recording.{Recorded, Continues}
 use Rattle.nutcore.specs.Calls.{room_of, is_finished}
@@ -28,19 +27,10 @@ use Rattle.nutloop.specs.declared.sockets.Call.{Call}
 use Rattle.nutloop.specs.declared.sockets.Call.TheVariants as calls
 use Rattle.nutloop.specs.declared.fault.LoopFault.{LoopFault}
 use Rattle.nutloop.specs.declared.fault.LoopFault.TheVariants as fault
-use Rattle.nutloop.specs.declared.turns.TheConstants.{DRIVER_READ_LIMIT}
+use Rattle.nutloop.specs.declared.turns.Loop.{Loop}
+use Rattle.nutcore.specs.declared.TheConstants.{DRIVER_READ_LIMIT}
 use Rattle.nutio.specs.Ends.{counted}
-use Rattle.nutloop.specs.Sockets.{Told, Answers, FailsToLook, IsFound, Readies, Reports}
-
--- The loop as its laws see it: the server, what the sockets report, and what is recorded.
-pub record LoopState : Type 1 where
-  pub server : RunningServer
-  pub sockets : Told
-  pub record_of : Recorded
-
-abbrev pub around : RunningServer → Told → Recorded → LoopState
-around server sockets holds =
-    record { server = server; sockets = sockets; record_of = holds }
+use Rattle.nutloop.specs.Sockets.{Told, Answers, FailsToLook, IsFound, Reports}
 
 -- The one call that a row makes of the sockets and that may fail, if it makes one: reads has how
 -- many bytes are asked for, writes which ones are offered.
@@ -159,10 +149,15 @@ row_events s (readies.Write (Client c)) answer = write_to_client s c answer
 row_events s (readies.Write (Driver u)) answer = write_to_driver u answer
 
 -- A driver is lost by a line that is too long, and where memory is refused.
-abbrev pub loses_driver : Fault → Bool
-loses_driver LineTooLong = true
-loses_driver (Memory k) = true
+abbrev pub loses_driver : Outcome → Bool
+loses_driver (outcome.Refused LineTooLong) = true
+loses_driver (outcome.Refused (Memory k)) = true
 loses_driver _ = false
+
+-- The loss of a peer.
+abbrev pub loss_of : Peer → Event
+loss_of (Client c) = event.Close c
+loss_of (Driver u) = event.DriverDown u
 
 -- The calls after an event, which can't fail: a newcomer is named, or refused where no session is
 -- opened; who is gone is shut, and so is a driver that is lost by what it sent.
@@ -171,8 +166,8 @@ calls_behind (event.Open address) (outcome.Opened c) = calls.Named c ∷ []
 calls_behind (event.Open address) _ = calls.Refused ∷ []
 calls_behind (event.Close c) _ = calls.Shut (Client c) ∷ []
 calls_behind (event.DriverDown u) _ = calls.Shut (Driver u) ∷ []
-calls_behind (event.DriverBytes u piece) (outcome.Refused fault) =
-    if loses_driver fault then calls.Shut (Driver u) ∷ [] else []
+calls_behind (event.DriverBytes u piece) o =
+    if loses_driver o then calls.Shut (Driver u) ∷ [] else []
 calls_behind _ _ = []
 
 -- The calls after each of the events.
@@ -187,59 +182,75 @@ AreNoted old [] [] new = new.notes ≡ old.notes
 AreNoted old (e ∷ []) (o ∷ []) new = new.notes ≡ notes_of old.state e o
 AreNoted old events outcomes new = ⊥
 
--- These events were recorded and done, with the calls after them, and no call failed.
-pub record Does (events : List Event) (old new : LoopState) : Type 0 where
-  pub outcomes : List Outcome
-  pub run : Run old.server.state events outcomes new.server.state
-  pub noted : AreNoted old.server events outcomes new.server
-  pub recorded : Continues old.record_of events new.record_of
-  pub reported : Answers old.sockets (calls_behind_all events outcomes) new.sockets
-
 abbrev pub failures_by : Answer → ℕ → ℕ
 failures_by failed n = counted n
 failures_by _ n = n
 
--- A row is done: its call is answered, then its events are done, with the calls after them.
-pub record IsRow (ready : Ready) (old new : LoopState) : Type 0 where
-  pub answer : Answer
-  pub may : MayAnswer (ask old.server.state ready) answer
-  pub mid : Told
-  pub called : Reports (failures_by answer) old.sockets
-      (answered (ask old.server.state ready) answer) mid
-  pub does : Does (row_events old.server.state ready answer) (record old { sockets = mid }) new
+-- An event is recorded and happens to the server, and its sockets are as they were.
+pub record Happens {S R : Type 0} (holds : R → Recorded) (e : Event) (old : Loop S R)
+    (outcome : Outcome) (new : Loop S R) : Type 0 where
+  pub step : Step old.server.state e outcome new.server.state
+  pub noted : new.server.notes ≡ notes_of old.server.state e outcome
+  pub recorded : Continues (holds old.recorder) (e ∷ []) (holds new.recorder)
+  pub sockets : new.sockets ≡ old.sockets
 
--- A turn that ends well: what is ready is found, and its row is done.
-pub record IsTurn (old new : LoopState) : Type 0 where
-  pub ready : Ready
-  pub mid : Told
-  pub found : Readies (λ a b. IsFound old.server.state ready a b) old.sockets ready mid
-  pub row : IsRow ready (record old { sockets = mid }) new
+module _ {S R : Type 0} (told : S → Told) (holds : R → Recorded) where
+  -- These events were recorded and done, with the calls after them, and no call failed.
+  pub record Does (events : List Event) (old new : Loop S R) : Type 0 where
+    pub outcomes : List Outcome
+    pub run : Run old.server.state events outcomes new.server.state
+    pub noted : AreNoted old.server events outcomes new.server
+    pub recorded : Continues (holds old.recorder) events (holds new.recorder)
+    pub reported : Answers (told old.sockets) (calls_behind_all events outcomes) (told new.sockets)
 
--- The server is as it was, and so is what is recorded of it.
-pub record IsLeft (old new : LoopState) : Type 0 where
-  pub server : new.server ≡ old.server
-  pub recorded : Continues old.record_of [] new.record_of
+  -- A row is done: its call is answered, then its events are done, with the calls after them.
+  pub record IsRow (ready : Ready) (old new : Loop S R) : Type 0 where
+    pub answer : Answer
+    pub may : MayAnswer (ask old.server.state ready) answer
+    pub mid : S
+    pub called : Reports (failures_by answer) (told old.sockets)
+        (answered (ask old.server.state ready) answer) (told mid)
+    pub does : Does (row_events old.server.state ready answer) (record old { sockets = mid }) new
 
--- What is ready is found, or the look fails.
-abbrev pub ReadyGives : ServerState → Told → Result Ready LoopFault → Told → Type 0
-ReadyGives s old (Ok ready) new = Readies (λ a b. IsFound s ready a b) old ready new
-ReadyGives s old (Err fault.Ready) new = FailsToLook old new
-ReadyGives s old (Err fault.Accept) new = ⊥
+  -- What earlier turns noted is forgotten.
+  abbrev pub forgotten : Loop S R → Loop S R
+  forgotten old = record old { server = begun old.server.state }
 
--- A newcomer's row, or `accept` fails.
-abbrev pub NewcomerGives : LoopState → Result (Unit {0}) LoopFault → LoopState → Type 0
-NewcomerGives old (Ok u) new = IsRow readies.Newcomer old new
-NewcomerGives old (Err fault.Ready) new = ⊥
-NewcomerGives old (Err fault.Accept) new =
-    IsLeft old new × Reports counted old.sockets [] new.sockets
+  -- A turn that ends well: what is ready is found, by these sockets then, and its row is done.
+  pub record IsTurn (soon : Bool) (old new : Loop S R) : Type 0 where
+    pub ready : Ready
+    pub mid : S
+    pub found : IsFound soon old.server.state ready (told old.sockets) (told mid)
+    pub row : IsRow ready (record (forgotten old) { sockets = mid }) new
 
--- A turn: it ends well; or the look fails, or `accept` of a newcomer that was found.
-abbrev pub TurnGives : LoopState → Result (Unit {0}) LoopFault → LoopState → Type 0
-TurnGives old (Ok u) new = IsTurn old new
-TurnGives old (Err fault.Ready) new = IsLeft old new × FailsToLook old.sockets new.sockets
-TurnGives old (Err fault.Accept) new =
-    IsLeft old new
-    × ((mid : Told)
-    × Readies (λ a b. IsFound old.server.state readies.Newcomer a b) old.sockets readies.Newcomer
-    mid
-    × Reports counted mid [] new.sockets)
+  -- The server is as it was, and so is what is recorded of it.
+  pub record IsLeft (old new : Loop S R) : Type 0 where
+    pub server : new.server ≡ old.server
+    pub recorded : Continues (holds old.recorder) [] (holds new.recorder)
+
+  -- What is ready is found, or the look fails.
+  abbrev pub ReadyGives : Bool → Loop S R → Result Ready LoopFault → Loop S R → Type 0
+  ReadyGives soon old (Ok ready) new =
+      IsLeft old new
+      × IsFound soon old.server.state ready (told old.sockets) (told new.sockets)
+  ReadyGives soon old (Err fault.Ready) new =
+      IsLeft old new × FailsToLook (told old.sockets) (told new.sockets)
+  ReadyGives soon old (Err fault.Accept) new = ⊥
+
+  -- A newcomer's row, or `accept` fails.
+  abbrev pub NewcomerGives : Loop S R → Result (Unit {0}) LoopFault → Loop S R → Type 0
+  NewcomerGives old (Ok u) new = IsRow readies.Newcomer old new
+  NewcomerGives old (Err fault.Ready) new = ⊥
+  NewcomerGives old (Err fault.Accept) new =
+      IsLeft old new × Reports counted (told old.sockets) [] (told new.sockets)
+
+  -- A turn: it ends well; or the look fails, or `accept` of a newcomer that was found.
+  abbrev pub TurnGives : Bool → Loop S R → Result (Unit {0}) LoopFault → Loop S R → Type 0
+  TurnGives soon old (Ok u) new = IsTurn soon old new
+  TurnGives soon old (Err fault.Ready) new =
+      IsLeft (forgotten old) new × FailsToLook (told old.sockets) (told new.sockets)
+  TurnGives soon old (Err fault.Accept) new =
+      IsLeft (forgotten old) new
+      × ((mid : S)
+      × IsFound soon old.server.state readies.Newcomer (told old.sockets) (told mid)
+      × Reports counted (told mid) [] (told new.sockets))

@@ -14,19 +14,14 @@ use Rattle.nutloop.specs.declared.over_mio.drivers.Driver.{Driver}
 use Rattle.nutloop.specs.declared.sockets.Ready.{Ready}
 use Rattle.nutloop.specs.declared.sockets.Ready.TheVariants.{Tick}
 
--- A tick is due where the clock has a later second than that of the last one.
+-- A tick is due where the clock has a later second than the server's moment.
 abbrev pub due_tick : ℕ → ℕ → Option ℕ
-due_tick last now = if nat_lt last now then Some now else None
+due_tick moment now = if nat_lt moment now then Some now else None
 
 -- The second of a tick.
 abbrev pub tick_in : Ready → Option ℕ
 tick_in (Tick second) = Some second
 tick_in _ = None
-
--- A tick has a new second, once. Without one the second is the same.
-abbrev pub Ticks : Option ℕ → ℕ → ℕ → Type 0
-Ticks (Some second) before now = (before < second) × (now ≡ second)
-Ticks None before now = now ≡ before
 
 -- A driver that isn't connected is tried again each second, if its socket has a path.
 abbrev pub is_absent : ServerState → ℕ → Driver → Bool

@@ -12,6 +12,6 @@ mod turns;
 pub use fault::{CannotListen, LoopFault};
 pub use ids::{ID_SIZE, Ids};
 pub use over_mio::{Crowd, DOOR_LIMIT, Leave, Left, MioSockets, Rules};
-pub use serving::{TURN_LIMIT, serve};
+pub use serving::TURN_LIMIT;
 pub use sockets::{Broken, Call, Got, Ready, Sockets};
-pub use turns::{DRIVER_READ_LIMIT, turn};
+pub use turns::Loop;

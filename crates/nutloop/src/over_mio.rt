@@ -1,16 +1,17 @@
 //! The sockets over `mio`: clients come over TCP, and drivers are connected to over Unix sockets.
-ghost use Rattle.std.specs.Prelude.{◌≡◌, ◌≤◌, ◌*◌, ◌-◌, ◌∷◌, [], IfErr, IfOk, IfSome, Some, length};
+ghost use Rattle.std.specs.Prelude.{◌≡◌, ◌≤◌, ◌*◌, ◌-◌, ◌∷◌, [], IfErr, IfOk, IfSome, MatchOption, None, Some, length};
 ghost use Rattle.nutloop.specs.Doors.{is_one_of};
 ghost use Rattle.std.specs.Option.{option_map};
 ghost use Rattle.nutio.specs.Ends.{IsCounted};
-ghost use Rattle.nutloop.specs.Sockets.{Answers, AtMost, Begins, Knows, ReportsCall, read_call};
+ghost use Rattle.nutloop.specs.Sockets.{Answers, AtMost, Begins, HasNextTurn, Knows, ReportsCall, read_call};
 ghost use Rattle.std.specs.Duration.{as_nanos};
-ghost use Rattle.nutloop.specs.Waking.{Ticks, due_tick, tick_in};
-ghost use Rattle.nutloop.specs.Ids.{due_after};
+ghost use Rattle.nutloop.specs.Waking.{due_tick, tick_in};
+ghost use Rattle.nutloop.specs.Ids.{HandsIn, due_after, id_in};
 ghost use Rattle.nuttracking.specs.Tracking.{missing_ids};
-ghost use Rattle.nutloop.specs.Places.{Decides, NobodyIsSilent};
+ghost use Rattle.nutloop.specs.Places.{BecomesOf, Decides, LetsGo, NobodyIsSilent, SendsAway};
 ghost use Rattle.nutloop.specs.NutBytes.{HandsOn};
-ghost use Rattle.nutloop.specs.OverMio.{GivesTurn, TouchesOnly, error_of, newcomer_of, passing_of, told_of};
+ghost use Rattle.nutloop.specs.OverMio.{GivesTurn, TouchesOnly, error_of, may_at, newcomer_of, passing_of, told_of};
+ghost use Rattle.nutloop.specs.Pass.{IsOver};
 ghost use Rattle.nutcore.specs.declared.event.Peer.TheVariants.{Client};
 ghost use Rattle.nutloop.specs.Waking.{wake_second};
 ghost use Rattle.nutloop.specs.declared.sockets.Call.TheVariants.{Named, Refused, Shut, Wrote};
@@ -36,7 +37,7 @@ use door::{Entrance, Newcomer};
 use drivers::{Driver, Drivers, connect, is_any_absent};
 use mio::{Events, Poll};
 use nut_bytes::keep;
-use nutcore::{ClientId, Peer, Server, Standing, UpsId};
+use nutcore::{ClientId, Peer, Server, UpsId};
 use nutwords::Address;
 use pass::{Pass, Stop, Way};
 use places::{Admission, admits, end_silent, first_silent, places_at, taken_places, who_has_most};
@@ -87,7 +88,7 @@ pub struct MioSockets<'a, R, F> {
     poll: Poll,
     events: Events,
     start: Instant,
-    /// The whole seconds since the start, as the last tick had them.
+    /// The whole seconds since the start, as the clock had them at the last look.
     second: u64,
     ids: Option<Ids<F>>,
     entrance: Entrance,
@@ -239,7 +240,12 @@ impl<'a, R: Net + Clock, F: Read + Drop> MioSockets<'a, R, F> {
 
     /// The next turn without a look: what this pass has left, or the next one.
     fn next_turn(&mut self, server: &Server) -> Option<Ready>
-        ensures { Knows (told_of self.old) server.now.state result (told_of self.new) }
+        ensures gives { MatchOption result
+            (IsOver (may_at server.now.state self.old) self.old.pass self.old.pass)
+            (λ ready. HasNextTurn server.now.state (passing_of self.old) ready
+            (passing_of self.new)) }
+        ensures same { self.new
+            ≡ record self.old { pass = self.new.pass; here = self.new.here } }
     {
         if let Some(ready) = self.visit(server) {
             return Some(ready);
@@ -281,55 +287,72 @@ impl<'a, R: Net + Clock, F: Read + Drop> MioSockets<'a, R, F> {
     }
 
     /// Asks the system, and waits for it where nobody had a turn and nothing is due; and the clock.
-    /// A tick, where the second is a new one, or else the first turn of a new pass.
+    /// A tick, where the clock has a later second than the server, or else the first turn of a new
+    /// pass.
     fn first_turn(&mut self, server: &Server, soon: bool) -> io::Result<Ready>
         ensures begins { IfOk result (λ ready.
             Begins server.now.state ready (Some (passing_of self.new))) }
-        ensures tick { IfOk result (λ ready.
-            Ticks (tick_in ready) self.old.second self.new.second) }
         ensures ids { IfOk result (λ ready. IfSome (tick_in ready) (λ second.
             option_map (λ ids. ids.due) self.new.ids
             ≡ option_map (λ ids. due_after self.old.rules.refills_ids
             (missing_ids server.now.state.tracking) (second - self.old.second) ids.due)
             self.old.ids)) }
         ensures silent { IfOk result (λ ready. IfSome (tick_in ready) (λ second.
-            NobodyIsSilent self.old.rules.idle second self.new.clients.items)) }
+            NobodyIsSilent server.now.state self.old.rules.idle second self.new.clients.items)) }
         ensures failures { self.new.failures ≡ self.old.failures }
     {
         let until = self.wakes_at(server, soon);
         self.wait(server, soon, until)?;
         self.hear();
         self.pass = Pass::default();
-        let now = self.start.elapsed(self.rt)?.as_secs();
-        if !self.closing.is_empty() {
-            self.closing
-                .retain_mut(|connection| connection.goes_on(now));
-        }
-        let Some(second) = due_tick(self.second, now) else {
+        let last = self.second;
+        self.second = self.start.elapsed(self.rt)?.as_secs();
+        self.close_what_ended();
+        let Some(second) = due_tick(server.current_moment(), self.second) else {
             return Ok(self.visit(server).unwrap_or(Ready::Nothing));
         };
-        if let Some(ids) = &mut self.ids {
-            if self.rules.refills_ids {
-                ids.refill(server.missing_ids());
-            } else {
-                ids.tick(second - self.second);
-            }
-        }
-        self.second = second;
+        self.refill_ids(server, second.saturating_sub(last));
         self.entrance.next_second();
-        self.end_silent();
+        self.end_silent(server);
         connect(self.rt, self.poll.registry(), &mut self.drivers, server);
         Ok(Ready::Tick(second))
     }
 
+    /// Connections whose sessions have ended are read on, or closed.
+    fn close_what_ended(&mut self)
+        ensures { self.new ≡ record self.old { closing = self.new.closing } }
+    {
+        let second = self.second;
+        if !self.closing.is_empty() {
+            self.closing
+                .retain_mut(|connection| connection.goes_on(second));
+        }
+    }
+
+    /// So many seconds went by, for which ids are due.
+    fn refill_ids(&mut self, server: &Server, seconds: u64)
+        ensures only { self.new ≡ record self.old { ids = self.new.ids } }
+        ensures due { option_map (λ ids. ids.due) self.new.ids
+            ≡ option_map (λ ids. due_after self.old.rules.refills_ids
+            (missing_ids server.now.state.tracking) seconds ids.due) self.old.ids }
+    {
+        if let Some(ids) = &mut self.ids {
+            if self.rules.refills_ids {
+                ids.refill(server.missing_ids());
+            } else {
+                ids.tick(seconds);
+            }
+        }
+    }
+
     /// Ends the clients that were silent for as long as one may be.
-    fn end_silent(&mut self)
+    fn end_silent(&mut self, server: &Server)
         ensures only { self.new ≡ record self.old { clients = self.new.clients } }
-        ensures nobody { NobodyIsSilent self.old.rules.idle self.old.second
+        ensures nobody { NobodyIsSilent server.now.state self.old.rules.idle self.old.second
             self.new.clients.items }
     {
         if let Some(idle) = self.rules.idle {
-            end_silent(self.clients.as_mut_slice(), idle, self.second);
+            end_silent(server, self.clients.as_mut_slice(), idle, self.second);
         }
     }
 
@@ -433,8 +456,8 @@ impl<'a, R: Net + Clock, F: Read + Drop> MioSockets<'a, R, F> {
     }
 
     /// What becomes of a newcomer. Who was given way enters once the other one has left.
-    fn decision(&self, newcomer: &Newcomer) -> Option<Admission>
-        ensures { Decides self.now newcomer.now result }
+    fn decision(&self, server: &Server, newcomer: &Newcomer) -> Option<Admission>
+        ensures { Decides server.now.state self.now newcomer.now result }
     {
         let clients = self.clients.as_slice();
         if let Some(c) = newcomer.awaits {
@@ -448,20 +471,18 @@ impl<'a, R: Net + Clock, F: Read + Drop> MioSockets<'a, R, F> {
             true => 0,
             false => self.rules.kept_places,
         };
-        Some(admits(clients, kept, self.second))
+        Some(admits(server, clients, kept, self.second))
     }
 
     /// The address of the newcomer, if there is one and it enters. It waits while another client
     /// gives way to it.
-    fn admit(&mut self) -> Option<Address>
-        ensures { self.new ≡ record self.old {
-          entrance = self.new.entrance;
-          clients = self.new.clients;
-          sent_away = self.new.sent_away;
-        } }
+    fn admit(&mut self, server: &Server) -> Option<Address>
+        ensures { MatchOption self.old.entrance.newcomer
+            ((result ≡ None) × (self.new ≡ self.old))
+            (λ x. BecomesOf server.now.state x self.old result self.new) }
     {
         let newcomer = self.entrance.newcomer.as_ref()?;
-        match self.decision(newcomer)? {
+        match self.decision(server, newcomer)? {
             Admission::Enters => return Some(newcomer.address.copied()),
             Admission::After(place) => self.let_go(place),
             Admission::SentAway => self.send_away(),
@@ -471,10 +492,7 @@ impl<'a, R: Net + Clock, F: Read + Drop> MioSockets<'a, R, F> {
 
     /// The client of this place gives way to the newcomer.
     fn let_go(&mut self, place: usize)
-        ensures { self.new ≡ record self.old {
-          entrance = self.new.entrance;
-          clients = self.new.clients;
-        } }
+        ensures { LetsGo place self.old self.new }
     {
         let second = self.second;
         if let Some(slot) = self.clients.get_mut(place) {
@@ -489,11 +507,7 @@ impl<'a, R: Net + Clock, F: Read + Drop> MioSockets<'a, R, F> {
 
     /// The newcomer is sent away.
     fn send_away(&mut self)
-        ensures only { self.new ≡ record self.old {
-          entrance = self.new.entrance;
-          sent_away = self.new.sent_away;
-        } }
-        ensures noted { self.new.sent_away ≡ newcomer_of self.old }
+        ensures { SendsAway self.old self.new }
     {
         self.sent_away = self
             .entrance
@@ -510,18 +524,22 @@ fn up_to(second: u64, elapsed: Duration) -> Duration
     Duration::from_secs(second).saturating_sub(elapsed)
 }
 
-/// The second of the tick that is due, where the last one was at this second.
-fn due_tick(last: u64, now: u64) -> Option<u64>
-    ensures { result ≡ due_tick last now }
+/// The second of the tick that is due, where the server has this moment and the clock is at `now`.
+fn due_tick(moment: u64, now: u64) -> Option<u64>
+    ensures { result ≡ due_tick moment now }
 {
-    (last < now).then_some(now)
+    (moment < now).then_some(now)
 }
 
 impl<'a, R: Net + Clock, F: Read + Drop> Sockets for MioSockets<'a, R, F> {
     ghost told = { told_of };
 
     /// An id that is due, or the next turn.
-    fn known(&mut self, server: &Server) -> Option<Ready> {
+    fn known(&mut self, server: &Server) -> Option<Ready>
+        ensures told { Knows (told_of self.old) server.now.state result (told_of self.new) }
+        ensures ids { IfSome result (λ ready. IfSome (id_in ready) (λ id.
+            HandsIn F.remaining self.old.ids id self.new.ids)) }
+    {
         self.left = None;
         self.sent_away = None;
         if let Some(ids) = &mut self.ids {
@@ -537,10 +555,10 @@ impl<'a, R: Net + Clock, F: Read + Drop> Sockets for MioSockets<'a, R, F> {
         self.count(answer)
     }
 
-    fn accept(&mut self) -> Result<Option<Address>, Broken> {
+    fn accept(&mut self, server: &Server) -> Result<Option<Address>, Broken> {
         let answer = self.entrance.accept();
         self.count(answer)?;
-        Ok(self.admit())
+        Ok(self.admit(server))
     }
 
     fn name(&mut self, c: ClientId)
@@ -560,7 +578,7 @@ impl<'a, R: Net + Clock, F: Read + Drop> Sockets for MioSockets<'a, R, F> {
         self.send_away();
     }
 
-    fn read(&mut self, p: Peer, into: &mut [u8]) -> Result<Got, Broken>
+    fn read(&mut self, server: &Server, p: Peer, into: &mut [u8]) -> Result<Got, Broken>
         ensures bound { AtMost result into.new }
         ensures told { ReportsCall (told_of self.old) (read_call p into.new) result
             (told_of self.new) }
@@ -568,10 +586,11 @@ impl<'a, R: Net + Clock, F: Read + Drop> Sockets for MioSockets<'a, R, F> {
     {
         let answer = match p {
             Peer::Client(c) => {
+                let is_owed = server.offered(c).unwrap_or(0) > 0;
                 let place = place_of(self.clients.as_slice(), self.here, c);
                 match self.clients.get_mut(place) {
                     Some(slot) => match slot {
-                        Some(client) => client.read(into, self.second),
+                        Some(client) => client.read(into, is_owed, self.second),
                         None => Ok(Got::End),
                     },
                     None => Ok(Got::End),
@@ -640,18 +659,6 @@ impl<'a, R: Net + Clock, F: Read + Drop> Sockets for MioSockets<'a, R, F> {
                     }
                     driver.socket = None;
                 }
-            }
-        }
-    }
-
-    fn had_turn(&mut self, c: ClientId, standing: Standing)
-        ensures told { Answers (told_of self.old) [] (told_of self.new) }
-        ensures only { TouchesOnly (Client c) self.old self.new }
-    {
-        let place = place_of(self.clients.as_slice(), self.here, c);
-        if let Some(slot) = self.clients.get_mut(place) {
-            if let Some(client) = slot {
-                client.standing = standing;
             }
         }
     }

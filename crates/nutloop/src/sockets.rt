@@ -3,7 +3,7 @@ ghost use Rattle.std.specs.Prelude.{◌≤◌, ◌∷◌, [], length, IfOk};
 ghost use Rattle.nutloop.specs.declared.sockets.Call.TheVariants.{Accepted, Named, Refused, Wrote, Shut};
 ghost use Rattle.nutloop.specs.Sockets.{Told, Answers, AtMost, Knows, Looks, ReportsCall, read_call};
 
-use nutcore::{Bytes, ClientId, Peer, Server, Standing, UpsId};
+use nutcore::{Bytes, ClientId, Peer, Server, UpsId};
 use nutwords::Address;
 
 /// What is ready, and so what a turn does.
@@ -39,6 +39,8 @@ pub enum Got {
 /// A call that was answered, with its answer.
 #[derive(Debug, Drop)]
 pub enum Call {
+    /// A look was to end soon, or when something is due.
+    Looked(bool),
     /// This is ready.
     Readied(Ready),
     /// A newcomer is taken in, from this address, or there is none.
@@ -76,10 +78,10 @@ pub trait Sockets {
     /// Looks what is ready, where nothing is known to be, and waits for it: up to the second in
     /// which something is due, or only up to the next one where `soon`.
     fn look(&mut self, server: &Server, soon: bool) -> Result<Ready, Broken>
-        ensures { Looks (told self.old) server.now.state result (told self.new) };
+        ensures { Looks soon (told self.old) server.now.state result (told self.new) };
 
     /// Takes in the next newcomer. The answer is its address. It is to be named or refused.
-    fn accept(&mut self) -> Result<Option<Address>, Broken>
+    fn accept(&mut self, server: &Server) -> Result<Option<Address>, Broken>
         ensures { ReportsCall (told self.old) Accepted result (told self.new) };
 
     /// The newcomer that was taken in last has the session of this id.
@@ -91,8 +93,8 @@ pub trait Sockets {
         ensures { Answers (told self.old) (Refused ∷ []) (told self.new) };
 
     /// Asks a peer for as many bytes as the buffer has room for, and reads what it gives into the
-    /// front.
-    fn read(&mut self, p: Peer, into: &mut [u8]) -> Result<Got, Broken>
+    /// front. The end of a client that is owed something comes later.
+    fn read(&mut self, server: &Server, p: Peer, into: &mut [u8]) -> Result<Got, Broken>
         ensures bound { AtMost result into.new }
         ensures told { ReportsCall (told self.old) (read_call p into.new) result (told self.new) };
 
@@ -104,8 +106,4 @@ pub trait Sockets {
     /// Shuts the connection of a peer. A client's is gone for good.
     fn shut(&mut self, p: Peer)
         ensures { Answers (told self.old) (Shut p ∷ []) (told self.new) };
-
-    /// The client had a turn, after which its session has this status.
-    fn had_turn(&mut self, c: ClientId, standing: Standing)
-        ensures { Answers (told self.old) [] (told self.new) };
 }

@@ -4,7 +4,7 @@ ghost use Rattle.std.specs.IoError.{error_kind, raw_os_error};
 ghost use Rattle.nutcore.specs.declared.note.Note.{Note};
 ghost use Rattle.nutloop.specs.declared.fault.LoopFault.{LoopFault};
 ghost use Rattle.nutloop.specs.OverMio.{told_of};
-ghost use Rattle.nutloop.specs.Serving.{IsOneRun, TurnsUpTo, running};
+ghost use Rattle.nutloop.specs.Serving.{IsOneRun, TurnsUpTo};
 ghost use Rattle.upsd.specs.Configuration.{FirstFails};
 ghost use Rattle.upsd.specs.Ending.{IsEndOfServing, IsOneOf, PrintsAddress};
 ghost use Rattle.upsd.specs.Reading.{CantBeOpened, anything};
@@ -18,7 +18,7 @@ use nutargs::VERSION;
 use nutcore::{Record, Server};
 use nutio::{CountedWriter, Sink, send};
 use nutjournal::{CROWD, Crowd, Doings, Journal, Leave};
-use nutloop::{CannotListen, DOOR_LIMIT, MioSockets, Rules};
+use nutloop::{CannotListen, DOOR_LIMIT, Loop, MioSockets, Rules};
 use nutreplay::{Recorder, record_head};
 use nutwords::Address;
 use std::alloc::Global;
@@ -44,8 +44,8 @@ pub fn serve_files<'a>(
         ⊎ (CantBeOpened files.entry.ids ending
         ⊎ IsEndOfServing service.now.addresses ending)) }
 {
-    let mut server = server_of(rt.alloc(), rt, files, service.max_age)?;
-    serve(rt, &mut server, files, service)
+    let server = server_of(rt.alloc(), rt, files, service.max_age)?;
+    serve(rt, server, files, service)
 }
 
 /// The ids of the file of this path, which is opened, and read while it is served. Without a path
@@ -60,12 +60,10 @@ fn ids_in<'a>(rt: &HostRuntime, path: Option<&'a str>) -> Result<Option<File>, E
     }
 }
 
-/// Opens the ids' file, listens at the address, and serves there. It owns only the sockets and the
-/// record, and what it calls owns none: a function that may end early while it owns a server or
-/// sockets takes long to prove.
+/// Opens the ids' file, listens at the addresses, and serves there.
 fn serve<'a>(
     rt: &HostRuntime,
-    server: &mut Server,
+    server: Server,
     files: Files<'a>,
     service: &Service,
 ) -> Result<(), Ending<'a>>
@@ -73,11 +71,16 @@ fn serve<'a>(
         CantBeOpened files.entry.ids ending ⊎ IsEndOfServing service.now.addresses ending) }
 {
     let ids = ids_in(rt, files.ids)?;
-    match sockets_of(rt, server, ids, service) {
-        Ok(mut sockets) => match recorder_in(rt, server, files.to_record, service) {
-            Ok(mut record) => {
-                let ended = serve_over(rt, server, &mut sockets, &mut record, files, service);
-                let _ = record.pause();
+    match sockets_of(rt, &server, ids, service) {
+        Ok(sockets) => match recorder_in(rt, &server, files.to_record, service) {
+            Ok(recorder) => {
+                let mut served = Loop {
+                    server,
+                    sockets,
+                    recorder,
+                };
+                let ended = serve_over(rt, &mut served, files, service);
+                let _ = served.recorder.pause();
                 ended
             }
             Err(ending) => Err(ending),
@@ -160,9 +163,7 @@ fn comment(rt: &HostRuntime) -> io::Result<String> {
 /// Writes the warnings, prints the addresses, and serves from then on.
 fn serve_over<'a, F: Read + Drop, W: Sink + Drop>(
     rt: &HostRuntime,
-    server: &mut Server,
-    sockets: &mut MioSockets<'_, HostRuntime, F>,
-    recorder: &mut Option<Recorder<W>>,
+    served: &mut Loop<MioSockets<'_, HostRuntime, F>, Option<Recorder<W>>>,
     files: Files<'a>,
     service: &Service,
 ) -> Result<(), Ending<'a>>
@@ -172,9 +173,9 @@ fn serve_over<'a, F: Read + Drop, W: Sink + Drop>(
     let mut journal = journal.map_err(|_| Ending::Memory)?;
     let priorities = service.priorities;
     let warner = Warner { rt, priorities };
-    warner.warn(files, server.ups(), server.users());
-    match print_bound(rt, &service.addresses, sockets) {
-        Ok(()) => go_round(rt, server, sockets, recorder, &mut journal),
+    warner.warn(files, served.server.ups(), served.server.users());
+    match print_bound(rt, &service.addresses, &served.sockets) {
+        Ok(()) => go_round(rt, served, &mut journal),
         Err(ending) => Err(ending),
     }
 }
@@ -203,29 +204,24 @@ fn print_bound<'a, F: Read + Drop>(
 /// shown the notes. The journal says whether it has more to log in the next second.
 fn go_round<'a, F: Read + Drop, W: Sink + Drop>(
     rt: &HostRuntime,
-    server: &mut Server,
-    sockets: &mut MioSockets<'_, HostRuntime, F>,
-    recorder: &mut Option<Recorder<W>>,
+    served: &mut Loop<MioSockets<'_, HostRuntime, F>, Option<Recorder<W>>>,
     journal: &mut Journal,
 ) -> Result<(), Ending<'a>>
     ensures turns { MatchResult result
         (λ done. TurnsUpTo told_of ⟦<Option<Recorder<W>> as Record>⟧.holds
-        (running server.old sockets.old recorder.old) (Ok done)
-        (running server.new sockets.new recorder.new))
+        served.old (Ok done) served.new)
         (λ ending. (fault : LoopFault) × (ending ≡ Ending.Loop fault)
         × TurnsUpTo told_of ⟦<Option<Recorder<W>> as Record>⟧.holds
-        (running server.old sockets.old recorder.old) (Err fault)
-        (running server.new sockets.new recorder.new)) }
+        served.old (Err fault) served.new) }
     ensures run { (notes : List Note)
-        × IsOneRun told_of ⟦<Option<Recorder<W>> as Record>⟧.holds
-        (running server.old sockets.old recorder.old) notes
-        (running server.new sockets.new recorder.new) }
+        × IsOneRun told_of ⟦<Option<Recorder<W>> as Record>⟧.holds served.old notes served.new }
 {
-    match nutloop::serve(server, sockets, recorder, |server, sockets, recorder| {
+    match served.serve(|served| {
+        let sockets = &served.sockets;
         let error_of = |u| sockets.driver_error(u);
         let crowd = || crowd_of(sockets);
-        let is_cut = matches!(recorder, Some(one) if one.is_cut());
-        journal.write(rt, server, error_of, crowd, doings_of(sockets, is_cut))
+        let is_cut = matches!(&served.recorder, Some(one) if one.is_cut());
+        journal.write(rt, &served.server, error_of, crowd, doings_of(sockets, is_cut))
     }) {
         Ok(()) => Ok(()),
         Err(fault) => Err(Ending::Loop(fault)),

@@ -3,7 +3,7 @@ use super::driver::Driver;
 use crate::kept::Kept;
 use anyhow::{Error, Result};
 use nutcore::{Descriptions, MAX_AGE_DEFAULT, MaxAge, Server, UpsList, Users};
-use nutloop::{MioSockets, Rules, turn};
+use nutloop::{Loop, MioSockets, Rules};
 use std::alloc::Global;
 use std::fs::File;
 use std::net::SocketAddr;
@@ -17,9 +17,7 @@ const ANY_PORT: &str = "127.0.0.1:0";
 /// The server, its sockets and its driver, and how many turns there were.
 #[derive(Drop)]
 pub struct Served<'a> {
-    server: Server,
-    sockets: MioSockets<'a, HostRuntime, File>,
-    record: Kept,
+    served: Loop<MioSockets<'a, HostRuntime, File>, Kept>,
     driver: Driver,
     turns: u32,
 }
@@ -38,9 +36,11 @@ impl<'a> Served<'a> {
         let sockets = MioSockets::new(rt, rt.alloc(), &[address], &server, None, rules);
         let sockets = sockets.map_err(|fault| fault.error)?;
         Ok(Served {
-            server,
-            sockets,
-            record: Kept::new(rt.alloc()),
+            served: Loop {
+                server,
+                sockets,
+                recorder: Kept::new(rt.alloc()),
+            },
             driver,
             turns: 0,
         })
@@ -48,7 +48,7 @@ impl<'a> Served<'a> {
 
     /// The port at which the server listens.
     pub fn port(&self) -> Result<u16> {
-        let address = self.sockets.local_addr(0)?;
+        let address = self.served.sockets.local_addr(0)?;
         Ok(address.ok_or(Error::msg("no address"))?.port())
     }
 
@@ -64,7 +64,7 @@ impl<'a> Served<'a> {
         }
         self.turns += 1;
         self.driver.step()?;
-        turn(&mut self.server, &mut self.sockets, &mut self.record, true)?;
+        self.served.turn(true)?;
         Ok(())
     }
 }

@@ -15,7 +15,7 @@ use crate::sockets::{Broken, Got};
 use arrayvec::ArrayVec;
 use mio::Registry;
 use mio::net::TcpStream;
-use nutcore::{ClientId, HELD_LIMIT, SESSION_LIMIT, Standing};
+use nutcore::{ClientId, SESSION_LIMIT, Server};
 use nutwords::Address;
 
 /// The clients by their places. A client keeps its place up to its end.
@@ -34,13 +34,12 @@ pub enum Leave {
     GaveWay(u64),
 }
 
-/// A client: its session, its socket, and the status of the session after the client's last turn.
+/// A client: its session, and its socket.
 #[derive(Drop)]
 pub(super) struct Client {
     pub id: ClientId,
     pub address: Address,
     pub socket: Socket<TcpStream>,
-    pub standing: Standing,
     /// The second in which it last sent or took a byte, or was let in.
     pub active: u64,
     /// Why it leaves, if it does.
@@ -65,10 +64,10 @@ impl Client {
     /// Whether it was silent for so many seconds. Where it may be read, what it sent waits for the
     /// server, as after a sleep of the machine.
     #[tactic(auto, unfolding(crate::specs::Places::is_silent))]
-    pub fn is_silent(&self, least: u64, second: u64) -> bool
-        ensures { result ≡ is_silent least second self.now }
+    pub fn is_silent(&self, server: &Server, least: u64, second: u64) -> bool
+        ensures { result ≡ is_silent server.now.state least second self.now }
     {
-        self.silence(second) >= least && !self.may(Way::Read) && self.leaving.is_none()
+        self.silence(second) >= least && !self.may(server, Way::Read) && self.leaving.is_none()
     }
 
     /// It leaves: its connection is shut both ways, and its next turn closes it.
@@ -80,7 +79,7 @@ impl Client {
     }
 
     /// Reads from its socket. While it is owed something, its end comes later.
-    pub fn read(&mut self, into: &mut [u8], second: u64) -> Result<Got, Broken>
+    pub fn read(&mut self, into: &mut [u8], is_owed: bool, second: u64) -> Result<Got, Broken>
         ensures bound { AtMost result into.new }
         ensures same { self.new ≡ record self.old {
           socket = self.new.socket;
@@ -89,7 +88,7 @@ impl Client {
         } }
         ensures active { self.new.active ≡ active_after_read second result self.old.active }
     {
-        let answer = self.socket.read(into, self.standing.offered > 0);
+        let answer = self.socket.read(into, is_owed);
         match answer {
             Ok(Got::Bytes(_)) => self.active = second,
             Ok(Got::Later) => {}
@@ -125,29 +124,34 @@ impl Client {
         self.leaving = self.leaving.or(Some(leave));
     }
 
-    /// Whether it may be read or written to. While it is owed something it is read where its
-    /// session has room, unless it has ended. One that is finished is written to, which closes it.
-    pub fn may(&self, way: Way) -> bool
-        ensures { result ≡ client_may way self.now }
+    /// Whether it may be read or written to, by its socket and by its session.
+    #[tactic(auto, unfolding(crate::specs::Pass::client_may))]
+    pub fn may(&self, server: &Server, way: Way) -> bool
+        ensures { result ≡ client_may server.now.state way self.now }
     {
-        let standing = self.standing;
-        match (way, standing.offered > 0) {
-            (Way::Read, true) => self.socket.readable && standing.room > 0 && !self.socket.ended,
-            (Way::Read, false) => self.socket.readable && !standing.is_finished,
-            (Way::Write, true) => self.socket.writable,
-            (Way::Write, false) => standing.is_finished,
+        if matches!(way, Way::Read) && !self.socket.readable {
+            return false;
+        }
+        match server.standing(self.id) {
+            Ok(standing) => self.socket.goes(way, standing),
+            Err(_) => false,
         }
     }
 }
 
 /// The first client from this place on that may be read or written to.
-pub(super) fn client_from(clients: &[Option<Client>], from: usize, way: Way) -> Option<usize>
-    ensures first { FirstFrom (client_at way clients.now) from result }
+pub(super) fn client_from(
+    clients: &[Option<Client>],
+    from: usize,
+    way: Way,
+    server: &Server,
+) -> Option<usize>
+    ensures first { FirstFrom (client_at server.now.state way clients.now) from result }
     ensures within { IfSome result (λ place. place < length clients.now) }
 {
     for place in from..clients.len() {
         if let Some(client) = &clients[place] {
-            if client.may(way) {
+            if client.may(server, way) {
                 return Some(place);
             }
         }
@@ -215,16 +219,10 @@ pub(super) fn take_in(
     {
         socket.end();
     }
-    let standing = Standing {
-        offered: 0,
-        room: HELD_LIMIT,
-        is_finished: false,
-    };
     let client = Client {
         id,
         address: newcomer.address,
         socket,
-        standing,
         active: second,
         leaving: None,
     };

@@ -93,10 +93,10 @@ impl Pass {
             (Stop::Driver(place, Way::Read), DRIVER_READS + place)
         } else if let Some(place) = driver_from(drivers, from(DRIVER_WRITES), Way::Write, server) {
             (Stop::Driver(place, Way::Write), DRIVER_WRITES + place)
-        } else if let Some(place) = client_from(clients, from(CLIENT_READS), Way::Read) {
+        } else if let Some(place) = client_from(clients, from(CLIENT_READS), Way::Read, server) {
             (Stop::Client(place, Way::Read), CLIENT_READS + place)
         } else {
-            let place = client_from(clients, from(CLIENT_WRITES), Way::Write)?;
+            let place = client_from(clients, from(CLIENT_WRITES), Way::Write, server)?;
             (Stop::Client(place, Way::Write), CLIENT_WRITES + place)
         };
         self.next = number + 1;

@@ -4,7 +4,7 @@ ghost use Rattle.nutloop.specs.Highest.{IsFirstHighest};
 ghost use Rattle.nutloop.specs.Places.{Admits, EndsIfSilent, EndsSilent, first_silent, places_at, places_of, rank_at, taken_places};
 
 use super::clients::{Client, Leave};
-use nutcore::SESSION_LIMIT;
+use nutcore::{SESSION_LIMIT, Server};
 use nutwords::Address;
 
 /// For so many seconds a client was silent that gives way to a newcomer. NUT's server ends a client
@@ -53,11 +53,11 @@ pub(super) fn places_at(clients: &[Option<Client>], place: usize) -> usize
 
 /// How much sooner than others the client at this place gives way: by the places of its address,
 /// and among clients of one address by its silence. 0 where it doesn't.
-fn rank(clients: &[Option<Client>], place: usize, second: u64) -> u128
-    ensures { result ≡ rank_at second clients.now place }
+fn rank(server: &Server, clients: &[Option<Client>], place: usize, second: u64) -> u128
+    ensures { result ≡ rank_at server.now.state second clients.now place }
 {
     match clients.get(place) {
-        Some(Some(client)) if client.is_silent(GIVES_WAY_AFTER, second) => {
+        Some(Some(client)) if client.is_silent(server, GIVES_WAY_AFTER, second) => {
             let places = places_of(clients, &client.address) as u128;
             places * PLACE + u128::from(client.silence(second))
         }
@@ -67,12 +67,17 @@ fn rank(clients: &[Option<Client>], place: usize, second: u64) -> u128
 
 /// Who gives way to a newcomer: of the clients that are silent for long enough the one that was
 /// silent for the longest time, of the address with most places.
-pub(super) fn who_gives_way(clients: &[Option<Client>], second: u64) -> Option<usize>
-    ensures { IsFirstHighest (rank_at second clients.now) (length clients.now) result }
+pub(super) fn who_gives_way(
+    server: &Server,
+    clients: &[Option<Client>],
+    second: u64,
+) -> Option<usize>
+    ensures { IsFirstHighest (rank_at server.now.state second clients.now) (length clients.now)
+        result }
 {
     let (mut first, mut highest) = (None, 0);
     for place in 0..clients.len() {
-        let rank = rank(clients, place, second);
+        let rank = rank(server, clients, place, second);
         if rank > highest {
             (first, highest) = (Some(place), rank);
         }
@@ -96,35 +101,45 @@ pub(super) fn who_has_most(clients: &[Option<Client>]) -> Option<usize>
 
 /// What becomes of a newcomer for whom so many places are no free ones: it enters where there are
 /// more, or one gives way.
-pub(super) fn admits(clients: &[Option<Client>], kept: usize, second: u64) -> Admission
-    ensures { Admits kept second clients.now result }
+pub(super) fn admits(
+    server: &Server,
+    clients: &[Option<Client>],
+    kept: usize,
+    second: u64,
+) -> Admission
+    ensures { Admits server.now.state kept second clients.now result }
 {
     if SESSION_LIMIT.saturating_sub(taken_places(clients)) > kept {
         return Admission::Enters;
     }
-    match who_gives_way(clients, second) {
+    match who_gives_way(server, clients, second) {
         Some(place) => Admission::After(place),
         None => Admission::SentAway,
     }
 }
 
 /// The client of a place is ended if it was silent for so many seconds.
-fn end_if_silent(slot: &mut Option<Client>, idle: u64, second: u64)
-    ensures { EndsIfSilent idle second slot.old slot.new }
+fn end_if_silent(server: &Server, slot: &mut Option<Client>, idle: u64, second: u64)
+    ensures { EndsIfSilent server.now.state idle second slot.old slot.new }
 {
     if let Some(client) = slot {
-        if client.is_silent(idle, second) {
+        if client.is_silent(server, idle, second) {
             client.go(Leave::Silent(idle));
         }
     }
 }
 
 /// Ends the clients that were silent for so many seconds, and no others.
-pub(super) fn end_silent(clients: &mut [Option<Client>], idle: u64, second: u64)
-    ensures { EndsSilent idle second clients.old clients.new }
+pub(super) fn end_silent(
+    server: &Server,
+    clients: &mut [Option<Client>],
+    idle: u64,
+    second: u64,
+)
+    ensures { EndsSilent server.now.state idle second clients.old clients.new }
 {
     for place in 0..clients.len() {
-        end_if_silent(&mut clients[place], idle, second);
+        end_if_silent(server, &mut clients[place], idle, second);
     }
 }
 

@@ -3,13 +3,16 @@ ghost use Rattle.std.specs.Prelude.{◌≡◌, ◌≤◌, ◌<◌, ◌==◌, tru
 ghost use Rattle.std.specs.Io.KnownBytes.{IsAtEnd, WriteAppends};
 ghost use Rattle.mio.specs.Interest.{is_readable, is_writable};
 ghost use Rattle.nutloop.specs.OverMio.{Gives, IsKnownAfter};
+ghost use Rattle.nutloop.specs.Pass.{goes};
 ghost use Rattle.nutloop.specs.Sockets.{AtMost};
 ghost use Rattle.nutloop.specs.declared.sockets.Got.TheVariants.{End};
 
+use super::pass::Way;
 use crate::sockets::{Broken, Got};
 use mio::Interest;
 use mio::event::Event;
 use mio::net::TcpStream;
+use nutcore::Standing;
 use std::io::{ErrorKind, Read, Write};
 use std::net::Shutdown;
 
@@ -65,6 +68,20 @@ impl<S: Read + Write> Socket<S> {
         self.ended |= event.is_read_closed() || event.is_error();
         self.readable |= event.is_readable() || self.ended;
         self.writable |= event.is_writable() || event.is_write_closed();
+    }
+
+    /// Whether a client of this standing may be read or written to. While it is owed something it is
+    /// read where its session has room, unless it has ended. One that is finished is written to,
+    /// which closes it.
+    pub fn goes(&self, way: Way, standing: Standing) -> bool
+        ensures { result ≡ goes way self.now standing }
+    {
+        match (way, standing.offered > 0) {
+            (Way::Read, true) => self.readable && standing.room > 0 && !self.ended,
+            (Way::Read, false) => self.readable && !standing.is_finished,
+            (Way::Write, true) => self.writable,
+            (Way::Write, false) => standing.is_finished,
+        }
     }
 
     /// Reads into the front of the buffer, which isn't empty. While something is owed to the peer

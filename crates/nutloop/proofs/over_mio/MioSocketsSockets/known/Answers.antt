@@ -1,14 +1,15 @@
-use Rattle.std.proofs.Common.{◌≡◌, ap, subst}
-use Rattle.nutloop.specs.OverMio.{told_of}
-use Rattle.nutloop.specs.Sockets.{Knows, Told}
+use Rattle.std.proofs.Common.{Some, arith}
+use Rattle.nutloop.proofs.Answering.{ids_due, known_then}
 use Rattle.nutloop.proofs.over_mio.MioSocketsSockets.known.Goals as goal
 
-pub returns : goal.returns
-returns g c =
-    let same : told_of c.match-self.self ≡ told_of c.args.self.now =
+pub returns-clause-told : goal.returns-clause-told
+unfolding ids_due
+returns-clause-told g c =
     elim c.match-self.branch [
-      | goal.in-Some+in_default-next w ↦ ap told_of w.self-is
-      | goal.in_default w ↦ ap told_of w.self-is
-    ] in
-    subst (λ (t : Told). Knows t c.args.server.now.state c.next_turn.result
-    (told_of c.next_turn.new.self)) same c.next_turn.ensures
+      | goal.in-Some+in_default-next w ↦ known_then c.args.server.now.state c.args.self.now c.match-self.self
+        c.next_turn.new.self c.next_turn.result (Some w.next.new.self) w.self-is
+        (omega (arith, w.in_default-next.ensures)) c.next_turn.ensures.same c.next_turn.ensures.gives
+      | goal.in_default w ↦ known_then c.args.server.now.state c.args.self.now c.match-self.self
+        c.next_turn.new.self c.next_turn.result c.args.self.now.ids w.self-is
+        (omega arith) c.next_turn.ensures.same c.next_turn.ensures.gives
+    ]
