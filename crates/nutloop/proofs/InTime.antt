@@ -197,7 +197,7 @@ module _ {S R : Type 0} (told : S → Told) (holds : R → Recorded) where
       (mid, (turns, (looks, found.had, each_look n mid new s rest)))
 
   -- Turns are runs.
-  turns_between : (old : Loop S R) (ts : List (Option Turn)) (new : Loop S R) →
+  pub turns_between : (old : Loop S R) (ts : List (Option Turn)) (new : Loop S R) →
       AnyTurns told holds old ts new → Between told holds old new
   turns_between old [] new same = still told holds old new same
   turns_between old (t ∷ ts) new (looks, (mid, turn, rest)) =

@@ -4,6 +4,7 @@ pub mod Turning
 pub mod SocketToSocket
 pub mod Fairness
 pub mod InTime
+pub mod Clock
 pub mod Answering
 pub mod Highest
 pub mod Places

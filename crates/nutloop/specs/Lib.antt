@@ -11,6 +11,7 @@ pub mod Moved
 pub mod SocketToSocket
 pub mod Fairness
 pub mod InTime
+pub mod Clock
 pub mod Tokens
 pub mod Highest
 pub mod Places

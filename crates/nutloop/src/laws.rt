@@ -1,4 +1,5 @@
 //! Laws of every list of turns, and the numbers of the loop. No program calls them.
+ghost use Rattle.nutloop.specs.Clock.{NoAnswerIsOlderByTheClock};
 ghost use Rattle.nutloop.specs.Fairness.{EverybodyHasATurn};
 ghost use Rattle.nutloop.specs.InTime.{WhoeverAsksLearnsInTime};
 ghost use Rattle.nutloop.specs.Moved.{EveryByteIsMovedOnce};
@@ -11,6 +12,7 @@ use nutcore::laws::{
     a_line_is_answered_at_once, each_answer_is_timely, every_server_is_sound,
     what_a_driver_reported_is_executed, what_a_driver_was_sent_and_is_owed, what_never_goes_back,
     what_was_asked_is_executed_or_held, what_was_sent_and_is_owed_is_the_answers,
+    whatever_is_answered_is_fresh,
 };
 
 /// Over any turns of `serve` whose sockets report their calls, what each client and each driver
@@ -43,8 +45,9 @@ pub fn a_driver_is_served_by_its_socket<S: Sockets, R: Record>()
     what_a_driver_was_sent_and_is_owed();
 }
 
-/// From one look at the system to the next, whoever is ready all the while has a turn. A look comes
-/// after at most 208 turns, and waits only where nobody is ready.
+/// Looks at the system divide the turns of serving: after a look there are at most 208 turns of
+/// peers and newcomers. From one look to the next whoever is ready all the while has a turn, by its
+/// socket and by what the server owes it. A look waits only where nobody is ready.
 pub fn everybody_has_a_turn<S: Sockets, R: Record>()
     ensures { EverybodyHasATurn S.told R.holds }
 {}
@@ -59,6 +62,14 @@ pub fn whoever_asks_learns_in_time<S: Sockets, R: Record>()
     a_line_is_answered_at_once();
     what_was_sent_and_is_owed_is_the_answers();
     every_server_is_sound();
+}
+
+/// What is answered after a look rests on a line that its driver sent at most the greatest age
+/// before the second that the clock had at that look: the tick of that second comes first.
+pub fn no_answer_is_older_by_the_clock<S: Sockets, R: Record>()
+    ensures { NoAnswerIsOlderByTheClock S.told R.holds }
+{
+    whatever_is_answered_is_fresh();
 }
 
 /// The bytes of a driver's read and of an id, the turns of a pass, between two looks and of
