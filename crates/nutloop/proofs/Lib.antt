@@ -7,4 +7,5 @@ pub mod InTime
 pub mod Clock
 pub mod Answering
 pub mod Highest
+pub mod Hearing
 pub mod Places

@@ -4,13 +4,14 @@ ghost use Rattle.nutloop.specs.Doors.{is_one_of};
 ghost use Rattle.std.specs.Option.{option_map};
 ghost use Rattle.nutio.specs.Ends.{IsCounted};
 ghost use Rattle.nutloop.specs.Sockets.{Answers, AtMost, Begins, HasNextTurn, Knows, ReportsCall, read_call};
+ghost use Rattle.mio.specs.Events.{items};
 ghost use Rattle.std.specs.Duration.{as_nanos};
 ghost use Rattle.nutloop.specs.Waking.{due_tick, tick_in};
 ghost use Rattle.nutloop.specs.Ids.{HandsIn, due_after, id_in};
 ghost use Rattle.nuttracking.specs.Tracking.{missing_ids};
 ghost use Rattle.nutloop.specs.Places.{BecomesOf, Decides, LetsGo, NobodyIsSilent, SendsAway};
 ghost use Rattle.nutloop.specs.NutBytes.{HandsOn};
-ghost use Rattle.nutloop.specs.OverMio.{GivesTurn, TouchesOnly, error_of, may_at, newcomer_of, passing_of, told_of};
+ghost use Rattle.nutloop.specs.OverMio.{AreNew, ClientsHear, DriversHear, GivesTurn, Hears, TouchesOnly, error_of, may_at, newcomer_of, passing_of, told_of};
 ghost use Rattle.nutloop.specs.Pass.{IsOver};
 ghost use Rattle.nutcore.specs.declared.event.Peer.TheVariants.{Client};
 ghost use Rattle.nutloop.specs.Waking.{wake_second};
@@ -30,11 +31,11 @@ use crate::sockets::{Broken, Got, Ready, Sockets};
 use crate::{CannotListen, Ids};
 use arrayvec::ArrayVec;
 pub use clients::Leave;
-use clients::{Clients, place_of, take_in};
-use closing::{CLOSING_LIMIT, Closing, close, first_end, is_any_readable};
+use clients::{Clients, hear_client, place_of, take_in};
+use closing::{CLOSING_LIMIT, Closing, close, first_end, hear_all, is_any_readable};
 pub use door::DOOR_LIMIT;
 use door::{Entrance, Newcomer};
-use drivers::{Driver, Drivers, connect, is_any_absent};
+use drivers::{Driver, Drivers, connect, hear_driver, is_any_absent};
 use mio::{Events, Poll};
 use nut_bytes::keep;
 use nutcore::{ClientId, Peer, Server, UpsId};
@@ -117,7 +118,9 @@ struct Rooms {
 }
 
 impl Rooms {
-    fn new<R: Net + Clock>(rt: &R, alloc: Global) -> io::Result<Self> {
+    fn new<R: Net + Clock>(rt: &R, alloc: Global) -> io::Result<Self>
+        ensures { IfOk result (λ rooms. rooms.closing.items ≡ []) }
+    {
         Ok(Rooms {
             start: Instant::now(rt)?,
             poll: Poll::new(rt)?,
@@ -142,7 +145,8 @@ impl<'a, R: Net + Clock, F: Read + Drop> MioSockets<'a, R, F> {
         ids: Option<F>,
         rules: Rules,
     ) -> Result<Self, CannotListen>
-        ensures { IfErr result (λ fault. IfSome fault.address (is_one_of addresses.now)) }
+        ensures fails { IfErr result (λ fault. IfSome fault.address (is_one_of addresses.now)) }
+        ensures starts { IfOk result (AreNew rules) }
     {
         let Rooms {
             start,
@@ -397,35 +401,10 @@ impl<'a, R: Net + Clock, F: Read + Drop> MioSockets<'a, R, F> {
 
     /// Notes what the system reports.
     fn hear(&mut self)
-        ensures { self.new ≡ record self.old {
-          entrance = self.new.entrance;
-          drivers = self.new.drivers;
-          clients = self.new.clients;
-          closing = self.new.closing;
-        } }
+        ensures { Hears (items self.old.events) self.old self.new }
     {
-        for event in self.events.iter() {
-            match Source::of(event.token()) {
-                Source::Listener => self.entrance.hear(),
-                Source::Driver(place) => {
-                    if let Some(driver) = self.drivers.get_mut(place) {
-                        if let Some(socket) = &mut driver.socket {
-                            socket.hear(event);
-                        }
-                    }
-                }
-                Source::Client(place) => {
-                    if let Some(Some(client)) = self.clients.get_mut(place) {
-                        client.socket.hear(event);
-                    }
-                }
-                Source::Closing => {
-                    for connection in self.closing.iter_mut() {
-                        connection.socket.readable = true;
-                    }
-                }
-            }
-        }
+        let (drivers, clients) = (&mut self.drivers, &mut self.clients);
+        hear(&self.events, &mut self.entrance, drivers, clients, &mut self.closing);
     }
 
     /// What is handed on of a read: all of it, or what NUT's server keeps where that is asked for.
@@ -514,6 +493,28 @@ impl<'a, R: Net + Clock, F: Read + Drop> MioSockets<'a, R, F> {
             .newcomer
             .take()
             .map(|newcomer| newcomer.address);
+    }
+}
+
+/// All whose events these are hear them.
+fn hear(
+    events: &Events,
+    entrance: &mut Entrance,
+    drivers: &mut Drivers,
+    clients: &mut Clients,
+    closing: &mut Vec<Closing>,
+)
+    ensures newcomer { entrance.new ≡ record entrance.old { doors = entrance.new.doors } }
+    ensures clients { ClientsHear (items events.now) clients.old.items clients.new.items }
+    ensures drivers { DriversHear (items events.now) drivers.old.items drivers.new.items }
+{
+    for event in events.iter() {
+        match Source::of(event.token()) {
+            Source::Listener => entrance.hear(),
+            Source::Driver(place) => hear_driver(drivers, place, event),
+            Source::Client(place) => hear_client(clients, place, event),
+            Source::Closing => hear_all(closing),
+        }
     }
 }
 

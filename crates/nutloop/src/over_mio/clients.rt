@@ -1,7 +1,8 @@
 //! Clients.
-ghost use Rattle.std.specs.Prelude.{◌≡◌, ◌<◌, ◌≤◌, ℕ, None, true, length, IfOk, IfSome};
+ghost use Rattle.std.specs.Prelude.{◌≡◌, ◌≢◌, ◌<◌, ◌≤◌, ℕ, None, true, length, IfOk, IfSome};
+ghost use Rattle.std.specs.Option.{option_map};
 ghost use Rattle.std.specs.Str.{bytes_eq};
-ghost use Rattle.nutloop.specs.OverMio.{OthersStay, is_of};
+ghost use Rattle.nutloop.specs.OverMio.{OthersStay, client_heard, is_of};
 ghost use Rattle.nutloop.specs.Pass.{FirstFrom, client_at, client_in, client_may};
 ghost use Rattle.nutloop.specs.Places.{Goes, active_after_read, active_after_write, is_silent, silence};
 ghost use Rattle.nutloop.specs.Sockets.{AtMost};
@@ -14,6 +15,7 @@ use super::tokens::Source;
 use crate::sockets::{Broken, Got};
 use arrayvec::ArrayVec;
 use mio::Registry;
+use mio::event::Event;
 use mio::net::TcpStream;
 use nutcore::{ClientId, SESSION_LIMIT, Server};
 use nutwords::Address;
@@ -157,6 +159,20 @@ pub(super) fn client_from(
         }
     }
     None
+}
+
+/// The client of a place hears an event.
+pub(super) fn hear_client(clients: &mut Clients, place: usize, event: &Event)
+    ensures own { client_in clients.new.items place
+        ≡ option_map (client_heard event.now) (client_in clients.old.items place) }
+    ensures others { (k : ℕ) → k ≢ place
+        → client_in clients.new.items k ≡ client_in clients.old.items k }
+{
+    if let Some(slot) = clients.get_mut(place) {
+        if let Some(client) = slot {
+            client.socket.hear(event);
+        }
+    }
 }
 
 /// The place of this client. Where it has none, nobody has the place. It is looked for at one place

@@ -1,5 +1,5 @@
 //! Connections of clients whose sessions have ended.
-ghost use Rattle.std.specs.Prelude.{◌≡◌, ◌≤◌, length, vec_len};
+ghost use Rattle.std.specs.Prelude.{◌≡◌, ◌≤◌, ◌<◌, true, length, vec_len};
 ghost use Rattle.nutloop.specs.Closing.{connections_at};
 ghost use Rattle.nutloop.specs.Highest.{IsFirstHighest};
 ghost use Rattle.nutloop.specs.declared.over_mio.closing.TheConstants.{CLOSING_LIMIT};
@@ -35,7 +35,9 @@ pub(super) struct Closing {
 
 impl Closing {
     /// Reads a piece and drops it. Whether the client has ended.
-    fn has_ended(&mut self) -> bool {
+    fn has_ended(&mut self) -> bool
+        ensures { self.new ≡ record self.old { socket = self.new.socket } }
+    {
         let mut bytes = [0; PIECE];
         match self.socket.stream.read(&mut bytes) {
             Ok(n) => n == 0,
@@ -48,7 +50,10 @@ impl Closing {
 
     /// Reads a piece, where there may be one. Whether the connection is read on: up to its second
     /// and its end.
-    pub fn goes_on(&mut self, second: u64) -> bool {
+    pub fn goes_on(&mut self, second: u64) -> bool
+        ensures until { result ≡ true → second < self.old.until }
+        ensures same { self.new ≡ record self.old { socket = self.new.socket } }
+    {
         second < self.until && !(self.socket.readable && self.has_ended())
     }
 }
@@ -85,6 +90,13 @@ pub(super) fn close(
             let _oldest = closing.remove(place);
         }
         let _ = closing.push(connection);
+    }
+}
+
+/// They may be read: the system reports so of one of them.
+pub(super) fn hear_all(closing: &mut [Closing]) {
+    for connection in closing {
+        connection.socket.readable = true;
     }
 }
 

@@ -209,7 +209,9 @@ impl Entrance {
     }
 
     /// The system reports newcomers at one of the doors.
-    pub fn hear(&mut self) {
+    pub fn hear(&mut self)
+        ensures { self.new ≡ record self.old { doors = self.new.doors } }
+    {
         for door in self.doors.iter_mut() {
             door.is_knocked_at = true;
         }

@@ -1,16 +1,22 @@
 //! Drivers.
-ghost use Rattle.std.specs.Prelude.{◌≡◌, ◌<◌, ◌≤◌, length, IfOk, IfSome};
+ghost use Rattle.std.specs.Prelude.{◌≡◌, ◌≢◌, ◌<◌, ◌≤◌, ℕ, true, length, slice_get, IfOk, IfSome};
+ghost use Rattle.std.specs.Option.{option_map};
+ghost use Rattle.nutloop.specs.OverMio.{driver_heard};
 ghost use Rattle.nutusers.specs.declared.limits.TheConstants.{UPS_LIMIT};
 ghost use Rattle.nutloop.specs.Pass.{FirstFrom, driver_at};
+ghost use Rattle.mio.specs.Interest.{is_readable, is_writable};
+ghost use Rattle.nutloop.specs.Tokens.{source_of};
 ghost use Rattle.nutloop.specs.Waking.{is_any_absent};
+ghost use Rattle.nutloop.specs.declared.over_mio.tokens.Source.TheVariants as source;
 
 use super::pass::Way;
 use super::socket::{Socket, both_ways};
 use super::tokens::Source;
 use crate::sockets::Broken;
 use arrayvec::ArrayVec;
+use mio::event::Event;
 use mio::net::UnixStream;
-use mio::{Interest, Registry};
+use mio::{Interest, Registry, Token};
 use nutcore::{Server, UpsId};
 use nutusers::UPS_LIMIT;
 use std::io;
@@ -62,12 +68,26 @@ impl Driver {
         let taken = socket.write(from)?;
         let place = u.place as usize;
         if taken < from.len() && place < UPS_LIMIT {
-            let token = Source::Driver(place).token();
+            let (token, interest) = watch_of(place, true);
             registry
-                .reregister(&mut socket.stream, token, both_ways())
+                .reregister(&mut socket.stream, token, interest)
                 .map_err(|_| Broken)?;
         }
         Ok(taken)
+    }
+}
+
+/// The driver of a place hears an event.
+pub(super) fn hear_driver(drivers: &mut Drivers, place: usize, event: &Event)
+    ensures own { slice_get drivers.new.items place
+        ≡ option_map (driver_heard event.now) (slice_get drivers.old.items place) }
+    ensures others { (k : ℕ) → k ≢ place
+        → slice_get drivers.new.items k ≡ slice_get drivers.old.items k }
+{
+    if let Some(driver) = drivers.get_mut(place) {
+        if let Some(socket) = &mut driver.socket {
+            socket.hear(event);
+        }
     }
 }
 
@@ -94,6 +114,22 @@ pub(super) fn is_any_absent(drivers: &[Driver], server: &Server) -> bool
     false
 }
 
+/// By which token the system reports the driver of this place, and of what: always of what there is
+/// to read, and of room for more where a write stopped short.
+fn watch_of(place: usize, stopped_short: bool) -> (Token, Interest)
+    requires { place < UPS_LIMIT }
+    ensures token { source_of result.0.0 ≡ source.Driver place }
+    ensures reads { is_readable result.1 ≡ true }
+    ensures writes { is_writable result.1 ≡ stopped_short }
+{
+    let interest = if stopped_short {
+        both_ways()
+    } else {
+        Interest::READABLE
+    };
+    (Source::Driver(place).token(), interest)
+}
+
 /// A socket that is connected to this path.
 fn connected<R: Net>(
     rt: &R,
@@ -104,8 +140,8 @@ fn connected<R: Net>(
     requires { u.place < UPS_LIMIT }
 {
     let mut stream = UnixStream::connect(rt, path)?;
-    let token = Source::Driver(u.place as usize).token();
-    registry.register(&mut stream, token, Interest::READABLE)?;
+    let (token, interest) = watch_of(u.place as usize, false);
+    registry.register(&mut stream, token, interest)?;
     Ok(Socket::new(stream))
 }
 

@@ -2,7 +2,7 @@
 ghost use Rattle.std.specs.Prelude.{◌≡◌, ◌≤◌, ◌<◌, ◌==◌, true, false, Ok, length, IfOk, OnErr};
 ghost use Rattle.std.specs.Io.KnownBytes.{IsAtEnd, WriteAppends};
 ghost use Rattle.mio.specs.Interest.{is_readable, is_writable};
-ghost use Rattle.nutloop.specs.OverMio.{Gives, IsKnownAfter};
+ghost use Rattle.nutloop.specs.OverMio.{Gives, IsKnownAfter, heard};
 ghost use Rattle.nutloop.specs.Pass.{goes};
 ghost use Rattle.nutloop.specs.Sockets.{AtMost};
 ghost use Rattle.nutloop.specs.declared.sockets.Got.TheVariants.{End};
@@ -54,7 +54,14 @@ impl Socket<TcpStream> {
 
 impl<S: Read + Write> Socket<S> {
     /// What there is to read is reported by an event.
-    pub fn new(stream: S) -> Self {
+    pub fn new(stream: S) -> Self
+        ensures { result ≡ record {
+          stream = stream;
+          readable = false;
+          writable = true;
+          ended = false;
+        } }
+    {
         Socket {
             stream,
             readable: false,
@@ -64,7 +71,9 @@ impl<S: Read + Write> Socket<S> {
     }
 
     /// Notes what an event reports. One that has ended is read up to its end.
-    pub fn hear(&mut self, event: &Event) {
+    pub fn hear(&mut self, event: &Event)
+        ensures { self.new ≡ heard event.now self.old }
+    {
         self.ended |= event.is_read_closed() || event.is_error();
         self.readable |= event.is_readable() || self.ended;
         self.writable |= event.is_writable() || event.is_write_closed();
