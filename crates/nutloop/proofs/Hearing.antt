@@ -13,7 +13,8 @@ use Rattle.nutloop.specs.declared.over_mio.drivers.Driver.{Driver}
 use Rattle.nutloop.specs.declared.over_mio.door.Entrance.{Entrance}
 use Rattle.nutloop.specs.declared.over_mio.tokens.Source.{Source}
 use Rattle.nutloop.specs.declared.over_mio.tokens.Source.TheVariants as source
-use Rattle.nutloop.specs.OverMio.{ClientsHear, DriversHear, client_heard, driver_heard, heard_all, is_of_source, is_same}
+use Rattle.nutloop.specs.OverMio.{ClientsHear, DriversHear, StayInTheirPlaces, client_heard, driver_heard, heard_all}
+use Rattle.nutloop.specs.OverMio.{is_of_source, is_same, who}
 use Rattle.nutloop.specs.Pass.{client_in}
 use Rattle.nutloop.specs.Tokens.{source_of}
 
@@ -105,3 +106,27 @@ all_hear events e at door mid new clients heard hears drivers told tells is befo
       subst (λ es. DriversHear es drivers tells) (sym join)
           (drivers_hear (map (λ (b : Bor Event). b.now) events) e.now at drivers told tells is before.2 by_driver),
     )
+
+-- Whoever hears stays.
+who_after : (own : Bool) (e : Event) (x : Client) → who (Some (if own then client_heard e x else x)) ≡ who (Some x)
+who_after true e x = refl
+who_after false e x = refl
+
+who_heard : (own : Source) (events : List Event) (x : Client) →
+    who (Some (heard_all client_heard own events x)) ≡ who (Some x)
+who_heard own [] x = refl
+who_heard own (e ∷ events) x =
+    who_heard own events (if is_of_source own e then client_heard e x else x) ∙ who_after (is_of_source own e) e x
+
+pub heard_stay : (events : List Event) (old new : List (Option Client)) → ClientsHear events old new →
+    StayInTheirPlaces old new
+heard_stay events old new hear place = ap who (hear place) ∙ by (client_in old place)
+  where
+    by : (slot : Option Client) → who (option_map (heard_all client_heard (source.Client place) events) slot) ≡ who slot
+    by None = refl
+    by (Some x) = who_heard (source.Client place) events x
+
+-- So whoever heard, and then stayed.
+pub stay_joined : (old mid new : List (Option Client)) → StayInTheirPlaces old mid → StayInTheirPlaces mid new →
+    StayInTheirPlaces old new
+stay_joined old mid new a b place = b place ∙ a place

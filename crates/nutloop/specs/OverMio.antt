@@ -129,6 +129,13 @@ abbrev pub other_in : ℕ → List (Option Client) → ℕ → Option Client
 other_in c clients place =
     option_and_then (λ x. if x.id == c then None else Some x) (client_in clients place)
 
+-- The client of each place is the one that was there, by its session and its address.
+abbrev pub who : Option Client → Option (ℕ × List ℕ)
+who slot = option_map (λ (x : Client). (x.id, x.address)) slot
+
+abbrev pub StayInTheirPlaces : List (Option Client) → List (Option Client) → Type 0
+StayInTheirPlaces old new = (place : ℕ) → who (client_in new place) ≡ who (client_in old place)
+
 -- All other clients stay at their places, as they were.
 abbrev pub OthersStay : ℕ → List (Option Client) → List (Option Client) → Type 0
 OthersStay c old new = (place : ℕ) → other_in c new place ≡ other_in c old place

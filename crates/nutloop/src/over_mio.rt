@@ -3,7 +3,7 @@ ghost use Rattle.std.specs.Prelude.{◌≡◌, ◌≤◌, ◌*◌, ◌-◌, ◌�
 ghost use Rattle.nutloop.specs.Doors.{is_one_of};
 ghost use Rattle.std.specs.Option.{option_map};
 ghost use Rattle.nutio.specs.Ends.{IsCounted};
-ghost use Rattle.nutloop.specs.Sockets.{Answers, AtMost, Begins, HasNextTurn, Knows, ReportsCall, read_call};
+ghost use Rattle.nutloop.specs.Sockets.{Answers, AtMost, Begins, HasNextTurn, Knows, Looks, ReportsCall, read_call};
 ghost use Rattle.mio.specs.Events.{items};
 ghost use Rattle.std.specs.Duration.{as_nanos};
 ghost use Rattle.nutloop.specs.Waking.{due_tick, tick_in};
@@ -11,11 +11,11 @@ ghost use Rattle.nutloop.specs.Ids.{HandsIn, due_after, id_in};
 ghost use Rattle.nuttracking.specs.Tracking.{missing_ids};
 ghost use Rattle.nutloop.specs.Places.{BecomesOf, Decides, LetsGo, NobodyIsSilent, SendsAway};
 ghost use Rattle.nutloop.specs.NutBytes.{HandsOn};
-ghost use Rattle.nutloop.specs.OverMio.{AreNew, ClientsHear, DriversHear, GivesTurn, Hears, TouchesOnly, error_of, may_at, newcomer_of, passing_of, told_of};
+ghost use Rattle.nutloop.specs.OverMio.{AreNew, ClientsHear, DriversHear, GivesTurn, Hears, StayInTheirPlaces, TouchesOnly, error_of, may_at, newcomer_of, passing_of, told_of};
 ghost use Rattle.nutloop.specs.Pass.{IsOver};
 ghost use Rattle.nutcore.specs.declared.event.Peer.TheVariants.{Client};
 ghost use Rattle.nutloop.specs.Waking.{wake_second};
-ghost use Rattle.nutloop.specs.declared.sockets.Call.TheVariants.{Named, Refused, Shut, Wrote};
+ghost use Rattle.nutloop.specs.declared.sockets.Call.TheVariants.{Accepted, Named, Refused, Shut, Wrote};
 
 mod clients;
 mod closing;
@@ -304,6 +304,7 @@ impl<'a, R: Net + Clock, F: Read + Drop> MioSockets<'a, R, F> {
         ensures silent { IfOk result (λ ready. IfSome (tick_in ready) (λ second.
             NobodyIsSilent server.now.state self.old.rules.idle second self.new.clients.items)) }
         ensures failures { self.new.failures ≡ self.old.failures }
+        ensures stay { StayInTheirPlaces self.old.clients.items self.new.clients.items }
     {
         let until = self.wakes_at(server, soon);
         self.wait(server, soon, until)?;
@@ -354,6 +355,7 @@ impl<'a, R: Net + Clock, F: Read + Drop> MioSockets<'a, R, F> {
         ensures only { self.new ≡ record self.old { clients = self.new.clients } }
         ensures nobody { NobodyIsSilent server.now.state self.old.rules.idle self.old.second
             self.new.clients.items }
+        ensures stay { StayInTheirPlaces self.old.clients.items self.new.clients.items }
     {
         if let Some(idle) = self.rules.idle {
             end_silent(server, self.clients.as_mut_slice(), idle, self.second);
@@ -551,12 +553,20 @@ impl<'a, R: Net + Clock, F: Read + Drop> Sockets for MioSockets<'a, R, F> {
         self.next_turn(server)
     }
 
-    fn look(&mut self, server: &Server, soon: bool) -> Result<Ready, Broken> {
+    fn look(&mut self, server: &Server, soon: bool) -> Result<Ready, Broken>
+        ensures told { Looks soon (told_of self.old) server.now.state result
+            (told_of self.new) }
+        ensures stay { StayInTheirPlaces self.old.clients.items self.new.clients.items }
+    {
         let answer = self.first_turn(server, soon).map_err(|_| Broken);
         self.count(answer)
     }
 
-    fn accept(&mut self, server: &Server) -> Result<Option<Address>, Broken> {
+    fn accept(&mut self, server: &Server) -> Result<Option<Address>, Broken>
+        ensures told { ReportsCall (told_of self.old) Accepted result (told_of self.new) }
+        ensures stay { StayInTheirPlaces self.old.clients.items self.new.clients.items }
+        ensures drivers { self.new.drivers ≡ self.old.drivers }
+    {
         let answer = self.entrance.accept();
         self.count(answer)?;
         Ok(self.admit(server))
