@@ -1,10 +1,9 @@
 -- What `known` and `look` answer, by the visits that they make.
-use Rattle.std.proofs.Common.{◌≡◌, ◌∙◌, Bool, true, false, Option, Some, None, List, ℕ, refl, inl, inr, subst, sym, arith}
+use Rattle.std.proofs.Common.{◌≡◌, ◌∙◌, Bool, true, false, Option, Some, None, ℕ, refl, inl, inr, subst, sym, arith}
 use Rattle.std.specs.Prelude.{◌≤◌, if◌then◌else◌, unwrap_or, MatchOption}
 use Rattle.std.specs.Option.{option_map_or}
 use Rattle.nutcore.specs.Server.{ServerState}
 use Rattle.nutloop.specs.declared.ids.Ids.{Ids}
-use Rattle.nutloop.specs.declared.over_mio.Left.{Left}
 use Rattle.nutloop.specs.declared.over_mio.MioSockets.{MioSockets}
 use Rattle.nutloop.specs.declared.over_mio.pass.Pass.{Pass}
 use Rattle.nutloop.specs.declared.sockets.Ready.{Ready}

@@ -1,8 +1,7 @@
 -- The server's moment is at least the second of the last look.
-use Rattle.std.proofs.Common.{◌≡◌, ◌⊎◌, ◌∙◌, ◌≤◌, ◌+◌, ℕ, Bool, true, List, [], ◌∷◌, ◌++◌, Option, Some, None}
-use Rattle.std.proofs.Common.{refl, ap, arith, inl, inr, subst, sym}
+use Rattle.std.proofs.Common.{◌≡◌, ◌⊎◌, ◌∙◌, ◌≤◌, ℕ, true, List, [], ◌∷◌, ◌++◌, Option, Some, None}
+use Rattle.std.proofs.Common.{refl, ap, arith, inl, inr}
 use Rattle.nutcore.specs.declared.event.Event.{Event}
-use Rattle.nutcore.specs.declared.event.Event.TheVariants as event
 use Rattle.nutcore.specs.DriverRuns.{IsNewServer}
 use Rattle.nutcore.specs.FreshRuns.{TheMomentIsTheGreatestTick, greatest_tick}
 use Rattle.nutcore.specs.Recording.{Recorded}

@@ -15,7 +15,7 @@ use Rattle.nutloop.specs.Sockets.{Begins, GoesOn, HasPassed, IsFound, Passing, P
 use Rattle.nutloop.specs.Turn.{IsTurn}
 use Rattle.nutloop.specs.Serving.{Turns}
 use Rattle.nutloop.specs.Fairness.{AnyTurns, EverybodyHasATurn, FindsWith, FromALook, FromLookToLook}
-use Rattle.nutloop.specs.Fairness.{HadTurn, IsOneOf, LooksDivideTheTurns, MakesPasses, Turn, WasUnready}
+use Rattle.nutloop.specs.Fairness.{HadTurn, IsOneOf, MakesPasses, Turn, WasUnready}
 use Rattle.nutloop.specs.Fairness.{WithoutALook, turns_in}
 
 -- Turns of peers, one after another, without a look.
@@ -157,15 +157,13 @@ without_a_look : (s : ServerState) (o : Option Passing) (ready : Ready) (t : Opt
 without_a_look s None ready t is old h at = absurd h
 without_a_look s (Some was) ready None is old h at =
     let from : was.so_far ≡ old = some_is was.so_far old (progress_of (Some was)) refl at in
-    let went : old ≡ record is.so_far { ids = suc is.so_far.ids } = sym from ∙ h.1 in
-    (
+    let went : old ≡ record is.so_far { ids = suc is.so_far.ids } = sym from ∙ h.1 in (
       sym (ap (λ (p : Progress). p.pass) went),
       omega (arith, ap (λ (p : Progress). p.ids) went),
       sym (ap (λ (p : Progress). p.second) went),
     )
 without_a_look s (Some was) ready (Some t) is old (may, pass, at_stop, next, second, ids) at =
-    let from : was.so_far ≡ old = some_is was.so_far old (progress_of (Some was)) refl at in
-    (
+    let from : was.so_far ≡ old = some_is was.so_far old (progress_of (Some was)) refl at in (
       (sym pass, subst (λ (p : Progress). HasNext t.may p.pass t.visited t.pass) from next),
       subst (λ (p : Progress). is.so_far.ids ≤ p.ids) from ids,
       subst (λ (p : Progress). is.so_far.second ≡ p.second) from second,
@@ -311,6 +309,7 @@ module _ {S R : Type 0} (told : S → Told) (holds : R → Recorded) where
         t = Some (record { may = was.may s; visited = visited; pass = is.so_far.pass });
         finds = (refl, refl, same, next, second, ids);
       }
+
       begins : IsOver (was.may s) was.so_far.pass was.so_far.pass → Begins s ready (Some is) →
           IsEither s (Some was) ready is
       begins over (inl (later, tick, pass)) = record { looks = true; t = None; finds = (over, (pass, inl tick)) }
@@ -321,6 +320,7 @@ module _ {S R : Type 0} (told : S → Told) (holds : R → Recorded) where
       }
       begins over (inr (reached, inr (nothing, passed))) =
           record { looks = true; t = None; finds = (over, (passed.same, inr reached)) }
+
       by_call : IsFound soon s ready a b → IsEither s a.passing ready is
       by_call (inl known) = subst (λ o. IsEither s o ready is) (sym before)
           (goes_on (rw (before, after) at known.passes))
@@ -340,8 +340,7 @@ module _ {S R : Type 0} (told : S → Told) (holds : R → Recorded) where
       let is = is_there (told turn.mid).passing (passes turn.mid) in
       let either = is_either soon old.server.state turn.ready (told old.sockets) (told turn.mid) was.0 is.0 was.1
       is.1 turn.found in
-      let later = each_turn mid n new passes rest in
-      (
+      let later = each_turn mid n new passes rest in (
         either.t ∷ later.0,
         ap suc later.1,
         (

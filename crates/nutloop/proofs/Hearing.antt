@@ -98,8 +98,7 @@ pub all_hear : (events : List (Bor Event)) (e : Bor Event) (at : Source) (door m
     AllHear (events ++ e ∷ []) door new clients hears drivers tells
 all_hear events e at door mid new clients heard hears drivers told tells is before opens by_client by_driver =
     let join : map (λ (b : Bor Event). b.now) (events ++ e ∷ []) ≡ map (λ (b : Bor Event). b.now) events ++ e.now ∷ [] =
-    map-append (λ (b : Bor Event). b.now) events (e ∷ []) in
-    (
+    map-append (λ (b : Bor Event). b.now) events (e ∷ []) in (
       opens,
       subst (λ es. ClientsHear es clients hears) (sym join)
           (clients_hear (map (λ (b : Bor Event). b.now) events) e.now at clients heard hears is before.1 by_client),

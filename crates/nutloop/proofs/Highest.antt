@@ -1,5 +1,5 @@
 -- The first of the highest ones, found place by place.
-use Rattle.std.proofs.Common.{◌≡◌, ◌<◌, ◌≤◌, ◌+◌, ℕ, Option, Some, None, arith}
+use Rattle.std.proofs.Common.{◌≡◌, ℕ, Option, Some, None}
 use Rattle.nutloop.specs.Highest.{IsFirstHighest}
 
 -- The highest rank of the places before, and the first place that has it.

@@ -353,22 +353,22 @@ module _ {S R : Type 0} (told : S → Told) (holds : R → Recorded) where
     )
     next_shown (suc n) soon old watcher notes again mid next new says last
         (first, (w, (then_soon, (more, all, its, shown, rest)))) turn h = (
-      first,
-      (
-        w,
-        (
-          then_soon,
+          first,
           (
-            more ++ new.server.notes,
-            ap (λ ns. ns ++ new.server.notes) all ∙
-                append_assoc first.server.notes more new.server.notes,
-            its,
-            shown,
-            next_shown n then_soon first w more again mid next new says last rest turn h,
+            w,
+            (
+              then_soon,
+              (
+                more ++ new.server.notes,
+                ap (λ ns. ns ++ new.server.notes) all ∙
+                    append_assoc first.server.notes more new.server.notes,
+                its,
+                shown,
+                next_shown n then_soon first w more again mid next new says last rest turn h,
+              ),
+            ),
           ),
-        ),
-      ),
-    )
+        )
 
     pub shown_then : (n : ℕ) (soon : Bool) (old : Loop S R) (watcher : W) (notes : List Note) (again : Bool)
         (mid : Loop S R) (next : W) (new : Loop S R) (says : Bool) (last : W)

@@ -1,7 +1,6 @@
 -- By the clock: what is answered after a look is never older than the greatest age, by the second
 -- that the clock had at that look.
 use Rattle.std.specs.Prelude.{◌≡◌, ◌≤◌, ◌+◌, ℕ, true, List, ◌++◌, Option}
-use Rattle.nutusers.specs.declared.ups_list.UpsId.{UpsId}
 use Rattle.nutcore.specs.declared.event.Event.{Event}
 use Rattle.nutcore.specs.declared.event.Outcome.{Outcome}
 use Rattle.nutcore.specs.DriverRuns.{IsNewServer}

@@ -1,5 +1,5 @@
 -- The doors at which newcomers knock.
-use Rattle.std.specs.Prelude.{◌≡◌, ◌⊎◌, ◌∷◌, [], ◌&&◌, ◌||◌, ℕ, Bool, false, List, Option, Some}
+use Rattle.std.specs.Prelude.{◌≡◌, ◌⊎◌, ◌∷◌, [], ◌||◌, ℕ, Bool, false, List, Option, Some}
 use Rattle.std.specs.Prelude.{None, is_some, slice_get, IsTrue, ◌↔◌}
 use Rattle.std.specs.Net.Addr.{HasPrefix, IsIpv4Mapped, IsLoopbackV4, IsLoopbackV6, MatchIp}
 use Rattle.std.specs.Net.Addr.{ipv6_segments, low_octets}

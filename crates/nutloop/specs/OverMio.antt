@@ -1,5 +1,5 @@
 -- What the sockets over mio have ready, what they move, and what they report.
-use Rattle.std.specs.Prelude.{◌≡◌, ◌≢◌, ◌⊎◌, ◌==◌, ◌+◌, ◌<◌, ◌||◌, ℕ, ℤ, Bool, true, false, List, [], ◌∷◌, length}
+use Rattle.std.specs.Prelude.{◌≡◌, ◌≢◌, ◌⊎◌, ◌==◌, ◌||◌, ℕ, ℤ, Bool, true, false, List, [], ◌∷◌, length}
 use Rattle.std.specs.Prelude.{take}
 use Rattle.std.specs.Prelude.{Option, Some, None, Result, Ok, MatchOption, if◌then◌else◌, slice_get}
 use Rattle.std.specs.Io.KnownBytes.{Consumes, Keeps}

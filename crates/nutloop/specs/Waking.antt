@@ -1,6 +1,6 @@
 -- How long a look at the system may wait: nothing that is due is slept over.
 use Rattle.std.specs.Prelude.{ℕ, Bool, false, List, [], ◌∷◌, suc, ◌&&◌, ◌||◌, is_none, is_some}
-use Rattle.std.specs.Prelude.{if◌then◌else◌, min, fold, slice_get, ◌≡◌, ◌+◌, ◌-◌, ◌^◌, ◌<◌, Option}
+use Rattle.std.specs.Prelude.{if◌then◌else◌, min, fold, slice_get, Option}
 use Rattle.std.specs.Prelude.{Some, None, nat_lt}
 use Rattle.std.specs.List.{list_any}
 use Rattle.std.specs.Option.{option_and_then, option_map_or}

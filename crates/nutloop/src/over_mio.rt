@@ -406,7 +406,13 @@ impl<'a, R: Net + Clock, F: Read + Drop> MioSockets<'a, R, F> {
         ensures { Hears (items self.old.events) self.old self.new }
     {
         let (drivers, clients) = (&mut self.drivers, &mut self.clients);
-        hear(&self.events, &mut self.entrance, drivers, clients, &mut self.closing);
+        hear(
+            &self.events,
+            &mut self.entrance,
+            drivers,
+            clients,
+            &mut self.closing,
+        );
     }
 
     /// What is handed on of a read: all of it, or what NUT's server keeps where that is asked for.

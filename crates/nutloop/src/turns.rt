@@ -22,7 +22,10 @@ pub struct Loop<S, R> {
 fn loses_driver(outcome: Outcome) -> bool
     ensures { result ≡ loses_driver outcome }
 {
-    matches!(outcome, Outcome::Refused(Fault::LineTooLong | Fault::Memory(_)))
+    matches!(
+        outcome,
+        Outcome::Refused(Fault::LineTooLong | Fault::Memory(_))
+    )
 }
 
 /// The loss of a peer.

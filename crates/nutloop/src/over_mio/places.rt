@@ -130,12 +130,7 @@ fn end_if_silent(server: &Server, slot: &mut Option<Client>, idle: u64, second: 
 }
 
 /// Ends the clients that were silent for so many seconds, and no others.
-pub(super) fn end_silent(
-    server: &Server,
-    clients: &mut [Option<Client>],
-    idle: u64,
-    second: u64,
-)
+pub(super) fn end_silent(server: &Server, clients: &mut [Option<Client>], idle: u64, second: u64)
     ensures { EndsSilent server.now.state idle second clients.old clients.new }
 {
     for place in 0..clients.len() {

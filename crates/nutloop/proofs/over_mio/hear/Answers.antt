@@ -1,8 +1,6 @@
-use Rattle.std.proofs.Common.{◌≡◌, ◌∙◌, ◌++◌, [], ◌∷◌, List, refl, ap, subst, sym, arith, rules}
-use Rattle.std.specs.Prelude.{map, slice_get}
-use Rattle.std.proofs.lemmas.List.{map-append}
+use Rattle.std.proofs.Common.{◌≡◌, ◌∙◌, refl, ap, sym, rules}
+use Rattle.std.specs.Prelude.{slice_get}
 use Rattle.mio.specs.Event.{event_token}
-use Rattle.mio.specs.declared.event.event.Event.{Event}
 use Rattle.nutloop.specs.declared.over_mio.tokens.Source.TheVariants.{Listener, Driver, Client, Closing}
 use Rattle.nutloop.specs.OverMio.{client_heard, driver_heard}
 use Rattle.nutloop.specs.Pass.{client_in}

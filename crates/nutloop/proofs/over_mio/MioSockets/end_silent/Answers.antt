@@ -1,4 +1,4 @@
-use Rattle.std.proofs.Common.{◌∙◌, Some, ap, length, subst, sym}
+use Rattle.std.proofs.Common.{◌∙◌, ap, length, subst, sym}
 use Rattle.nutloop.specs.Places.{NobodyIsSilent}
 use Rattle.nutloop.proofs.Places.{nobody_stays, refilled}
 use Rattle.nutloop.proofs.over_mio.MioSockets.end_silent.Goals as goal

@@ -1,4 +1,4 @@
-use Rattle.std.proofs.Common.{◌≡◌, ◌∷◌, [], subst}
+use Rattle.std.proofs.Common.{subst}
 use Rattle.nutcore.specs.declared.event.Event.{Event}
 use Rattle.nutloop.specs.Turn.{Happens, loss_of}
 use Rattle.nutloop.proofs.Rows.{does_then, shut_behind}

@@ -1,11 +1,10 @@
-use Rattle.std.proofs.Common.{◌≡◌, [], ◌∷◌, refl, subst, Some, None, rules}
+use Rattle.std.proofs.Common.{[], ◌∷◌, refl, Some, None, rules}
 use Rattle.std.specs.Prelude.{IsTrue}
 use Rattle.nutcore.specs.declared.event.Event.TheVariants.{Open}
-use Rattle.nutcore.specs.declared.event.Outcome.{Outcome}
 use Rattle.nutcore.specs.declared.event.Outcome.TheVariants.{Opened}
 use Rattle.nutwords.specs.Reading.{is_address}
 use Rattle.nutloop.specs.declared.sockets.Ready.TheVariants.{Newcomer}
-use Rattle.nutloop.specs.Turn.{Happens, accepts, newcomer}
+use Rattle.nutloop.specs.Turn.{accepts, newcomer}
 use Rattle.nutloop.proofs.Rows.{row, does_nothing, does_then, refused_behind}
 use Rattle.nutloop.proofs.turns.Loop.newcomer.Goals as goal
 

@@ -1,4 +1,4 @@
-use Rattle.std.proofs.Common.{◌≡◌, ℕ, Bool, ◌∙◌, sym, ap, subst, true, false, [], ◌∷◌}
+use Rattle.std.proofs.Common.{◌≡◌, ℕ, ◌∙◌, sym, ap, subst, true, false, [], ◌∷◌}
 use Rattle.std.proofs.Common.{refl, take, length, arith, length-take}
 use Rattle.std.specs.Prelude.{◌≤◌, if◌then◌else◌}
 use Rattle.nutcore.specs.declared.TheConstants.{DRIVER_READ_LIMIT}

@@ -1,4 +1,4 @@
-use Rattle.std.proofs.Common.{[], ◌∷◌, ◌≡◌, ◌∙◌, ap, refl}
+use Rattle.std.proofs.Common.{[], ◌∙◌, ap, refl}
 use Rattle.nutcore.specs.declared.event.Event.TheVariants as event
 use Rattle.nutcore.specs.declared.event.Peer.TheVariants.{Client, Driver}
 use Rattle.nutloop.specs.declared.sockets.Ready.TheVariants.{Nothing, Tick, Id, DriverUp, Read, Write}

@@ -1,4 +1,4 @@
-use Rattle.std.proofs.Common.{◌∙◌, ◌≡◌, sym, [], ◌∷◌, refl, true, false}
+use Rattle.std.proofs.Common.{◌∙◌, sym, [], ◌∷◌, refl}
 use Rattle.nutcore.specs.declared.event.Event.TheVariants.{DriverTook, DriverDown}
 use Rattle.nutcore.specs.declared.event.Peer.TheVariants.{Driver}
 use Rattle.nutcore.specs.DriverOrders.{owed_to_driver}
