@@ -1,5 +1,5 @@
 //! A record: the events of a server, written one by one as a script.
-ghost use Rattle.std.specs.Prelude.{◌≡◌, [], is_some, string_bytes, IfSome, Some, ℕ};
+ghost use Rattle.std.specs.Prelude.{◌≡◌, ◌+◌, [], true, is_some, length, string_bytes, IfSome, Some, ℕ};
 ghost use Rattle.nutreplay.specs.Recorded.{Leaves, Records, WritesAll};
 ghost use Rattle.nutreplay.specs.Written.{IsReadAs, head_of, is_one_line};
 
@@ -84,8 +84,9 @@ impl<W: Sink + Drop> Record for Recorder<W> {
 
 /// Writes the text, if it has no more than so many bytes.
 fn write_within<W: Sink>(writer: &mut W, left: &mut u64, text: &[u8]) -> Option<()>
-    ensures { Leaves W.contents W.failures left.old
+    ensures leaves { Leaves W.contents W.failures left.old
         writer.old text.now (is_some result) writer.new }
+    ensures counted { is_some result ≡ true → left.new + length text.now ≡ left.old }
 {
     *left = left.checked_sub(text.len() as u64)?;
     send(writer, text).ok()
