@@ -92,6 +92,11 @@ abbrev pub Gives : {E : Type 0} → Option (List ℕ) → Option (List ℕ) → 
 Gives old new (Ok (Bytes n)) into = Consumes old new (take n into)
 Gives old new _ into = Keeps old new
 
+-- How many bytes a read gave of a client.
+abbrev pub read_of_client : {E : Type 0} → Peer → Result Got E → ℕ
+read_of_client (peer.Client c) (Ok (Bytes n)) = n
+read_of_client p answer = 0
+
 -- What is known of a socket after a read. There may be more where the bytes filled the buffer, or
 -- the peer has ended, which no event reports again. After `Later` an event reports more, unless the
 -- peer has ended.

@@ -1,5 +1,5 @@
 //! The sockets over `mio`: clients come over TCP, and drivers are connected to over Unix sockets.
-ghost use Rattle.std.specs.Prelude.{◌≡◌, ◌≤◌, ◌*◌, ◌-◌, ◌∷◌, [], IfErr, IfOk, IfSome, MatchOption, None, Some, length};
+ghost use Rattle.std.specs.Prelude.{◌≡◌, ◌≤◌, ◌*◌, ◌+◌, ◌-◌, ◌^◌, ◌∷◌, min, [], IfErr, IfOk, IfSome, MatchOption, None, Some, length};
 ghost use Rattle.nutloop.specs.Doors.{is_one_of};
 ghost use Rattle.std.specs.Option.{option_map};
 ghost use Rattle.nutio.specs.Ends.{IsCounted};
@@ -11,8 +11,9 @@ ghost use Rattle.nutloop.specs.Ids.{HandsIn, due_after, id_in};
 ghost use Rattle.nuttracking.specs.Tracking.{missing_ids};
 ghost use Rattle.nutloop.specs.Places.{BecomesOf, Decides, LetsGo, NobodyIsSilent, SendsAway};
 ghost use Rattle.nutloop.specs.NutBytes.{HandsOn};
-ghost use Rattle.nutloop.specs.OverMio.{AreNew, ClientsHear, DriversHear, GivesTurn, Hears, StayInTheirPlaces, TouchesOnly, error_of, may_at, newcomer_of, passing_of, told_of};
+ghost use Rattle.nutloop.specs.OverMio.{read_of_client, AreNew, ClientsHear, DriversHear, GivesTurn, Hears, StayInTheirPlaces, TouchesOnly, error_of, may_at, newcomer_of, passing_of, told_of};
 ghost use Rattle.nutloop.specs.Pass.{IsOver};
+ghost use Rattle.nutloop.specs.declared.over_mio.TheConstants.{READ_PER_LOOK};
 ghost use Rattle.nutcore.specs.declared.event.Peer.TheVariants.{Client};
 ghost use Rattle.nutloop.specs.Waking.{wake_second};
 ghost use Rattle.nutloop.specs.declared.sockets.Call.TheVariants.{Accepted, Named, Refused, Shut, Wrote};
@@ -51,6 +52,10 @@ use tokens::Source;
 
 /// The most events that a poll reports. The next one reports the others.
 const EVENT_LIMIT: usize = 256;
+
+/// After so many bytes of clients a pass is the last one before a look: each of them may be a line,
+/// and a client that sends as many at once would have 16 reads to another's one.
+pub(crate) const READ_PER_LOOK: usize = 256;
 
 /// What an administrator settles of the sockets.
 #[derive(Clone, Copy)]
@@ -97,6 +102,8 @@ pub struct MioSockets<'a, R, F> {
     clients: Clients,
     closing: Vec<Closing>,
     pass: Pass,
+    /// How many bytes were read of clients since the last look.
+    read_since: usize,
     /// The place of the client that had the last turn of a client.
     here: usize,
     failures: u64,
@@ -175,6 +182,7 @@ impl<'a, R: Net + Clock, F: Read + Drop> MioSockets<'a, R, F> {
             clients: ArrayVec::new(),
             closing,
             pass: Pass::default(),
+            read_since: 0,
             here: 0,
             failures: 0,
             cut_off: 0,
@@ -242,17 +250,23 @@ impl<'a, R: Net + Clock, F: Read + Drop> MioSockets<'a, R, F> {
         [self.cut_off, self.entrance.failures]
     }
 
-    /// The next turn without a look: what this pass has left, or the next one.
+    /// The next turn without a look: what this pass has left, or the next one. After so many bytes
+    /// only this one goes on.
     fn next_turn(&mut self, server: &Server) -> Option<Ready>
         ensures gives { MatchOption result
             (IsOver (may_at server.now.state self.old) self.old.pass self.old.pass)
             (λ ready. HasNextTurn server.now.state (passing_of self.old) ready
             (passing_of self.new)) }
+        ensures dear { READ_PER_LOOK ≤ self.old.read_since
+            → GivesTurn server.now.state self.old self.old.pass result self.new.pass }
         ensures same { self.new
             ≡ record self.old { pass = self.new.pass; here = self.new.here } }
     {
         if let Some(ready) = self.visit(server) {
             return Some(ready);
+        }
+        if self.read_since >= READ_PER_LOOK {
+            return None;
         }
         self.pass = self.pass.again()?;
         self.visit(server)
@@ -310,6 +324,7 @@ impl<'a, R: Net + Clock, F: Read + Drop> MioSockets<'a, R, F> {
         self.wait(server, soon, until)?;
         self.hear();
         self.pass = Pass::default();
+        self.read_since = 0;
         let last = self.second;
         self.second = self.start.elapsed(self.rt)?.as_secs();
         self.close_what_ended();
@@ -427,6 +442,20 @@ impl<'a, R: Net + Clock, F: Read + Drop> MioSockets<'a, R, F> {
                 kept => Ok(Got::Bytes(kept)),
             },
             other => other,
+        }
+    }
+
+    /// What was read of a client since the last look is counted.
+    fn add_read(&mut self, p: Peer, answer: Result<Got, Broken>)
+        ensures { self.new ≡ record self.old {
+          read_since = min (self.old.read_since + read_of_client p answer) (2 ^ 64 - 1);
+        } }
+    {
+        match (p, answer) {
+            (Peer::Client(_), Ok(Got::Bytes(n))) => {
+                self.read_since = self.read_since.saturating_add(n);
+            }
+            _ => {}
         }
     }
 
@@ -622,6 +651,7 @@ impl<'a, R: Net + Clock, F: Read + Drop> Sockets for MioSockets<'a, R, F> {
             },
         };
         let answer = self.kept(p, answer, into);
+        self.add_read(p, answer);
         self.count(answer)
     }
 
