@@ -445,20 +445,6 @@ impl<'a, R: Net + Clock, F: Read + Drop> MioSockets<'a, R, F> {
         }
     }
 
-    /// What was read of a client since the last look is counted.
-    fn add_read(&mut self, p: Peer, answer: Result<Got, Broken>)
-        ensures { self.new ≡ record self.old {
-          read_since = min (self.old.read_since + read_of_client p answer) (2 ^ 64 - 1);
-        } }
-    {
-        match (p, answer) {
-            (Peer::Client(_), Ok(Got::Bytes(n))) => {
-                self.read_since = self.read_since.saturating_add(n);
-            }
-            _ => {}
-        }
-    }
-
     /// A call failed: it is counted.
     fn count<T>(&mut self, answer: Result<T, Broken>) -> Result<T, Broken>
         ensures same { result ≡ answer }
@@ -555,6 +541,16 @@ fn hear(
     }
 }
 
+/// How many bytes a read gave of a client.
+fn read_of_client(p: Peer, answer: Result<Got, Broken>) -> usize
+    ensures { result ≡ read_of_client p answer }
+{
+    match (p, answer) {
+        (Peer::Client(_), Ok(Got::Bytes(n))) => n,
+        _ => 0,
+    }
+}
+
 /// How long it is up to this second, so long after the start.
 fn up_to(second: u64, elapsed: Duration) -> Duration
     ensures { as_nanos result ≡ second * 1_000_000_000 - as_nanos elapsed }
@@ -629,6 +625,8 @@ impl<'a, R: Net + Clock, F: Read + Drop> Sockets for MioSockets<'a, R, F> {
         ensures told { ReportsCall (told_of self.old) (read_call p into.new) result
             (told_of self.new) }
         ensures only { TouchesOnly p self.old self.new }
+        ensures counted { IfOk result (λ _. self.new.read_since
+            ≡ min (self.old.read_since + read_of_client p result) (2 ^ 64 - 1)) }
     {
         let answer = match p {
             Peer::Client(c) => {
@@ -651,7 +649,7 @@ impl<'a, R: Net + Clock, F: Read + Drop> Sockets for MioSockets<'a, R, F> {
             },
         };
         let answer = self.kept(p, answer, into);
-        self.add_read(p, answer);
+        self.read_since = self.read_since.saturating_add(read_of_client(p, answer));
         self.count(answer)
     }
 
