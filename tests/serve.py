@@ -625,20 +625,14 @@ def sent_away(server):
     return sum(map(int, lines))
 
 
-def stolen():
-    """How much of the processors the host of this machine has kept for others, in hundredths of a second."""
-    with open("/proc/stat", encoding="utf-8") as stat:
-        return int(stat.readline().split()[8])
-
-
 def worst_wait(client, count):
     """The longest of so many waits, but for those in which the host kept a processor: they are the host's."""
     worst = 0.0
     for _ in range(count):
-        before, begin = stolen(), time.monotonic()
+        before, begin = serving.stolen(), time.monotonic()
         assert client.ask(GET) == STATUS
         wait = time.monotonic() - begin
-        worst = max(worst, wait if stolen() == before else 0.0)
+        worst = max(worst, wait if serving.stolen() == before else 0.0)
     return worst
 
 

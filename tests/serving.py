@@ -33,6 +33,12 @@ def comes(holds, seconds=10.0):
     return True
 
 
+def stolen():
+    """How much of the processors the host of this machine has kept for others, in hundredths of a second."""
+    with open("/proc/stat", encoding="utf-8") as stat:
+        return int(stat.readline().split()[8])
+
+
 def taken(wire, want, patience):
     """What comes, as long as it isn't what is wanted, and something comes in time."""
     got = b""
