@@ -814,7 +814,7 @@ def of_more_than_64_clients_that_left_the_oldest_are_closed():
 
 
 def a_server_that_is_asked_nothing_does_nothing():
-    """Nor one of which a client asks more than its session holds, and takes nothing."""
+    """Nor one with a client that fills its session with requests, and takes no answer."""
     with served(many(MANY, 256)) as (server, driver, _):
         full, gone = server.client(buffer=4096), server.client()
         full.send(b"LIST VAR su\n" * 400)
