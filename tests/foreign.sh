@@ -15,8 +15,8 @@ link() { cc -O2 -Wall -Wextra -Werror -o "$folder/$1" "${@:2}" arm64/foreign.c; 
 link foreign tests/foreign.c
 "$folder/foreign" word ''
 
-# Where the gate takes a program from an earlier run on this machine, there is no object of it.
-[[ -f crates/upsd/out/upsd.o && -f crates/upsc/out/upsc.o ]] || { echo "foreign: the programs are skipped: upsd.o or upsc.o isn't there"; exit 0; }
+# The gate keeps programs for its next run on this machine, but not their objects.
+[[ -f crates/upsd/out/upsd.o && -f crates/upsc/out/upsc.o ]] || { echo 'foreign: the programs are skipped: those of an earlier gate have no upsd.o, upsc.o: make builds them'; exit 0; }
 for program in upsd upsc; do link "$program" "crates/$program/out/$program.o"; done
 "$folder/upsd" replay crates/upsd/data/first.txt | cmp - crates/upsd/stdout
 crates/demodriver/out/demodriver "$folder/su" >"$folder/driver" 2>&1 &

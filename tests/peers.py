@@ -187,12 +187,20 @@ def forget(*ids):
             os.unlink(path)
 
 
+def is_monitored():
+    """Whether this machine has an upsmon of its own. One that is gone may have left its id."""
+    with contextlib.suppress(OSError):
+        with open(MONITOR_ID, encoding="ascii") as kept, open(f"/proc/{kept.read().strip()}/comm", encoding="ascii") as name:
+            return name.read() == "upsmon\n"
+    return False
+
+
 def why_skipped():
     programs = [DRIVER, UPSD, UPSMON, *(f"/bin/{name}" for name in ("upsc", "upsrw", "upscmd", "upslog"))]
     missing = [program for program in programs if not os.access(program, os.X_OK)]
     missing += [] if importlib.util.find_spec("PyNUT") else ["PyNUT"]
-    if os.path.exists(MONITOR_ID):
-        return f"this machine has an upsmon of its own, or one that is gone has left {MONITOR_ID}"
+    if is_monitored():
+        return "this machine has an upsmon of its own"
     return f"{missing[0]} isn't there" if missing else None
 
 
@@ -201,6 +209,8 @@ def main():
         print(f"peers: skipped: {why}")
         return 0
     begun, well = time.monotonic(), []
+    # One that is ended takes away what it made, too.
+    signal.signal(signal.SIGTERM, lambda number, _: sys.exit(128 + number))
     with tempfile.TemporaryDirectory() as folder:
         peers = Peers(folder)
         try:

@@ -30,12 +30,6 @@ BENCH.file("users", USERS)
 served = functools.partial(serving.served, FOLDER, UPSD)
 
 
-def began(process):
-    """When this process began, by the clock since the boot."""
-    with open(f"/proc/{process}/stat", encoding="utf-8") as stat:
-        return int(stat.read().rsplit(")", 1)[1].split()[19]) / os.sysconf("SC_CLK_TCK")
-
-
 def go_to(second):
     """The clock of the server is in the middle of this second after its start."""
     elapsed = time.clock_gettime(time.CLOCK_BOOTTIME) - START[0] if second else 0
@@ -50,7 +44,7 @@ def begun(*words, reported=serving.TWO, **more):
     go_to(0)
     env = {**os.environ, "LD_PRELOAD": NARROW, "CLOCK": CLOCK, "ELSEWHERE": "1", **more}
     with served(reported, *words, env=env) as all_of_it:
-        START[0] = began(all_of_it[0].process.pid)
+        START[0] = all_of_it[0].began()
         yield all_of_it
 
 
@@ -149,10 +143,9 @@ def a_login_of_a_machine_that_vanished_is_gone():
         logged(server, "127.0.0.3 silent for 60 s: closed")
         assert dead.up_to_end() == b"" and other.up_to_end() == b""
         # Nobody is ended whose request waits, however long the server stood still.
-        server.process.send_signal(serving.signal.SIGSTOP)
-        good.send(ASK)
-        go_to(500)
-        server.process.send_signal(serving.signal.SIGCONT)
+        with server.stopped():
+            good.send(ASK)
+            go_to(500)
         assert good.line() == ANSWER and is_served(good)
 
 

@@ -11,7 +11,6 @@ import os
 import re
 import select
 import shutil
-import signal
 import socket
 import subprocess
 import sys
@@ -40,6 +39,7 @@ upsmon secondary
 """
 ADMIN = b'USERNAME admin\nPASSWORD "s3 cret"\n'
 MON = b"USERNAME mon\nPASSWORD pw\n"
+BOTH = "sr", "su"  # the second of two UPSs is the one that is looked at
 GET, STATUS = b"GET VAR su ups.status\n", b'VAR su ups.status "OL"\n'
 AWAY = b"ERR DRIVER-NOT-CONNECTED\n"
 NO_FILE = "cannot connect: No such file or directory\n"
@@ -48,6 +48,7 @@ NEWS = ["driver connected", "status OL", "data good"]
 COME = "".join(f"upsd: su: {line}\n" for line in NEWS)
 BY_ITSELF = "LOGOUT, or a line too long"
 MANY = 4096
+DRIVER_READ, CLIENT_READ = 512, 2048  # the most bytes that are read of one between two looks at the system
 
 
 def path(name):
@@ -172,12 +173,15 @@ def orders_reach_the_driver_and_are_logged_once_without_values():
 
 
 def a_driver_that_took_none_gets_its_orders_again():
-    """Once it reads what its socket holds, and what it was owed beside that."""
+    """Once it reads what its socket holds, and what it was owed beside that. Meanwhile its reports are answered."""
     order = b"INSTCMD su test.battery.start\n"
-    with served(ORDERS) as (_, driver, good):
+    with served(ORDERS, upses=BOTH) as (_, driver, good):
         assert good.ask(ADMIN) == b"OK\n" * 2
         while good.ask(order) == b"OK\n":
             pass
+        time.sleep(1.1)
+        driver.send(b'SETINFO ups.status "OB LB"\n')
+        assert comes(lambda: good.ask(GET) == b'VAR su ups.status "OB LB"\n', 3), good.ask(GET)
         assert serving.taken(driver.wire, None, 0.3).endswith(b"\n")
         assert good.ask(order) == b"OK\n"
         assert driver.line() == b"INSTCMD test.battery.start\n"
@@ -621,20 +625,14 @@ def sent_away(server):
     return sum(map(int, lines))
 
 
-def stolen():
-    """How much of the processors the host of this machine has kept for others, in hundredths of a second."""
-    with open("/proc/stat", encoding="utf-8") as stat:
-        return int(stat.readline().split()[8])
-
-
 def worst_wait(client, count):
     """The longest of so many waits, but for those in which the host kept a processor: they are the host's."""
     worst = 0.0
     for _ in range(count):
-        before, begin = stolen(), time.monotonic()
+        before, begin = serving.stolen(), time.monotonic()
         assert client.ask(GET) == STATUS
         wait = time.monotonic() - begin
-        worst = max(worst, wait if stolen() == before else 0.0)
+        worst = max(worst, wait if serving.stolen() == before else 0.0)
     return worst
 
 
@@ -660,13 +658,36 @@ def all_that_comes_at_one_moment_is_heard():
     with served() as (server, _, good):
         clients = [good, *(server.client() for _ in range(62))]
         assert all(client.ask(GET) == STATUS for client in clients)
-        server.process.send_signal(signal.SIGSTOP)
-        late = server.client()
-        for client in clients:
-            client.send(GET)
-        server.process.send_signal(signal.SIGCONT)
+        with server.stopped():
+            late = server.client()
+            for client in clients:
+                client.send(GET)
         assert all(client.line() == STATUS for client in clients)
         assert late.ask(GET) == STATUS
+
+
+def report_of(size, status):
+    """So many bytes of a driver, the last of which are this status."""
+    last = b'SETINFO ups.status "%s"\n' % status
+    left = size - len(last)
+    ends = [left * part // 8 for part in range(9)]
+    fill = [b'SETINFO x "' + b"2" * (end - begin - 13) + b'"\n' for begin, end in itertools.pairwise(ends)]
+    return b"".join(fill) + last
+
+
+def a_report_is_answered_as_many_looks_later_as_its_bytes_take():
+    """A client asks once a look: each of its lines is as long as a read of it."""
+    figures = []
+    with served(upses=BOTH) as (server, driver, good):
+        for size in (220, 500, 805, 3925):
+            status = b"OB %d" % size
+            with server.stopped():
+                driver.send(report_of(size, status))
+                good.send((GET[:-1].ljust(CLIENT_READ - 1) + b"\n") * 20)
+            later = [good.line() for _ in range(20)].index(STATUS.replace(b"OL", status))
+            assert later <= (size - 1) // DRIVER_READ, f"{size} bytes of a driver are answered {later} looks later"
+            figures.append(f"{size} bytes {later}")
+    return "looks later: " + ", ".join(figures)
 
 
 def a_standing_connection_lists_without_delay():
@@ -709,10 +730,9 @@ def a_client_that_ends_between_a_look_and_a_read_gets_all():
     narrow = BENCH.library("narrow.c")
     with served(many(1000, 100), env={**os.environ, "LD_PRELOAD": narrow, "ENDS_LATE": "1"}) as (server, _, _):
         client = server.client()
-        server.process.send_signal(signal.SIGSTOP)
-        client.send(b"LIST VAR su\n".ljust(2048, b"\n"))
-        client.wire.shutdown(socket.SHUT_WR)
-        server.process.send_signal(signal.SIGCONT)
+        with server.stopped():
+            client.send(b"LIST VAR su\n".ljust(CLIENT_READ, b"\n"))
+            client.wire.shutdown(socket.SHUT_WR)
         got = client.up_to_end()
         assert got == many_listed(1000, 100), len(got)
 
@@ -745,6 +765,18 @@ def clients_that_left_are_closed_at_their_end_or_after_two_ticks():
             client.close()
         assert comes(lambda: server.descriptors() == before + 5, 0.5)
         assert comes(lambda: sends_on(clients[9]) or server.descriptors() == before, 3.5)
+
+
+def clients_that_left_and_send_without_end_are_closed():
+    """After two ticks, as all are. Then there is nothing to do."""
+    with served() as (server, _, _):
+        before = server.descriptors()
+        clients = [server.client() for _ in range(3)]
+        assert all(client.ask(b"LOGOUT\n") == b"OK Goodbye\n" for client in clients)
+        with pouring(clients, b"VER\n" * 10_000):
+            assert comes(lambda: server.descriptors() == before, 4), f"{server.descriptors() - before} are still read"
+            worked = server.worked(1)
+        assert worked < 0.1 * serving.SLOWER, f"it worked {worked:.2f} s"
 
 
 def what_clients_send_after_their_end_is_read():
@@ -782,17 +814,17 @@ def of_more_than_64_clients_that_left_the_oldest_are_closed():
 
 
 def a_server_that_is_asked_nothing_does_nothing():
+    """Nor one with a client that fills its session with requests, and takes no answer."""
     with served(many(MANY, 256)) as (server, driver, _):
-        slow, gone = server.client(), server.client()
-        slow.send(b"LIST VAR su\n" * 4)
+        full, gone = server.client(buffer=4096), server.client()
+        full.send(b"LIST VAR su\n" * 400)
         assert gone.ask(b"LOGOUT\n") == b"OK Goodbye\n"
-        time.sleep(0.3)
-        before, opened = server.seconds_of_work(), server.descriptors()
-        again = select.select([driver.listener], [], [], 2.5)[0]
-        assert not again, "a driver that is there is connected to again"
-        worked = server.seconds_of_work() - before
+        opened = server.descriptors()
+        assert comes(lambda: server.worked(0.2) == 0), "it goes on working"
+        worked = server.worked(3)
         assert worked < 0.2 * serving.SLOWER, f"it worked {worked:.2f} s"
         assert server.descriptors() == opened - 1
+        assert not select.select([driver.listener], [], [], 0)[0], "a driver that is there is connected to again"
 
 
 def it_sleeps_until_something_is_due():
@@ -840,9 +872,7 @@ def more_clients_than_descriptors_end_nothing():
         asked = b"GET UPSDESC su\n", b'UPSDESC su "Unavailable"\n'
         answered = [client for client in clients if is_answered(client, *asked)]
         assert 5 < len(answered) < 20, len(answered)
-        before = server.seconds_of_work()
-        time.sleep(1.5)
-        assert server.seconds_of_work() - before < 0.3, "it spins"
+        assert server.worked(1.5) < 0.3, "it spins"
         for client in answered:
             client.close()
         waiting = [client for client in clients if client not in answered]
@@ -895,14 +925,9 @@ def a_driver_with_orders_at_each_moment_is_heard():
 
 
 def nobody_waits_long_beside_busy_clients_and_drivers():
-    drivers = [Driver(path(f"{ups}.sock")) for ups in ("su", "sv")]
-    ups = file("two.conf", "".join(f"[{driver.path[-7:-5]}]\nsocket = {driver.path}\n" for driver in drivers))
-    with begun(ups, "--users", path("users"), "--maxage", str(3 * serving.SLOWER)) as server:
-        for driver in drivers:
-            driver.accept(TWO)
-        clients = [server.client() for _ in range(64)]
-        assert all(comes(lambda: clients[0].ask(b"GET VAR %s ups.status\n" % ups).startswith(b"VAR")) for ups in (b"su", b"sv"))
-        others = [report_on(driver, 31) for driver in drivers]
+    with served(TWO, "--maxage", str(3 * serving.SLOWER), upses=BOTH) as (server, _, good):
+        clients = [good, *(server.client() for _ in range(63))]
+        others = [report_on(driver, 31) for driver in server.drivers]
         end, worst = time.monotonic() + 30, 0.0
         with pouring(clients[:-1], GET * 50):
             while time.monotonic() < end:
@@ -910,10 +935,7 @@ def nobody_waits_long_beside_busy_clients_and_drivers():
                 time.sleep(0.01)
         for other in others:
             other.join()
-        journal = server.journal()
-    for driver in drivers:
-        driver.close()
-    assert "stale" not in journal, journal
+        assert "stale" not in server.journal(), server.journal()
     assert 0 < worst < LONGEST, f"the 64th client waited {worst:.3f} s"
     assert all(other.exitcode == 0 for other in others)
     return f"the longest wait was {worst * 1000:.1f} ms"

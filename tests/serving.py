@@ -33,6 +33,12 @@ def comes(holds, seconds=10.0):
     return True
 
 
+def stolen():
+    """How much of the processors the host of this machine has kept for others, in hundredths of a second."""
+    with open("/proc/stat", encoding="utf-8") as stat:
+        return int(stat.readline().split()[8])
+
+
 def taken(wire, want, patience):
     """What comes, as long as it isn't what is wanted, and something comes in time."""
     got = b""
@@ -171,10 +177,32 @@ class Server:
         with open(f"/proc/{self.process.pid}/status", encoding="utf-8") as status:
             return int(next(line for line in status if line.startswith(kind)).split()[1])
 
-    def seconds_of_work(self):
+    def fields(self):
+        """What the system says of the process, from its state on."""
         with open(f"/proc/{self.process.pid}/stat", encoding="utf-8") as stat:
-            fields = stat.read().rsplit(")", 1)[1].split()
-        return (int(fields[11]) + int(fields[12])) / os.sysconf("SC_CLK_TCK")
+            return stat.read().rsplit(")", 1)[1].split()
+
+    def began(self):
+        """When it did, by the clock since the boot."""
+        return int(self.fields()[19]) / os.sysconf("SC_CLK_TCK")
+
+    def seconds_of_work(self):
+        return (int(self.fields()[11]) + int(self.fields()[12])) / os.sysconf("SC_CLK_TCK")
+
+    def worked(self, seconds):
+        """How much it works in so many seconds."""
+        before = self.seconds_of_work()
+        time.sleep(seconds)
+        return self.seconds_of_work() - before
+
+    @contextlib.contextmanager
+    def stopped(self):
+        """While the block runs, it stands still. It waited for events before."""
+        assert comes(lambda: self.fields()[0] == "S")
+        self.process.send_signal(signal.SIGSTOP)
+        assert comes(lambda: self.fields()[0] == "T")
+        yield
+        self.process.send_signal(signal.SIGCONT)
 
     def wakeups(self):
         """How often it has waited."""
@@ -266,17 +294,17 @@ class OtherServer(Server):
 
 
 @contextlib.contextmanager
-def served(folder, upsd, reported=TWO, *words, env=None, errors=None):
-    """A server over the UPS `su`, its driver, which has reported this, and a good client."""
+def served(folder, upsd, reported=TWO, *words, upses=("su",), env=None, errors=None):
+    """A server over these UPSs, the driver of the last one, and a good client. Each driver has reported this."""
     with contextlib.ExitStack() as stack:
-        driver = Driver(os.path.join(folder, "su.sock"))
-        stack.callback(driver.close)
+        drivers = {it: stack.enter_context(contextlib.closing(Driver(os.path.join(folder, f"{it}.sock")))) for it in upses}
         ups = os.path.join(folder, "su.conf")
         with open(ups, "w", encoding="utf-8") as out:
-            out.write(f'[su]\ndesc = "Rack 1"\nsocket = {driver.path}\n')
+            out.writelines(f'[{it}]\ndesc = "Rack 1"\nsocket = {driver.path}\n' for it, driver in drivers.items())
         server = Server(upsd, ups, "--users", os.path.join(folder, "users"), *words, env=env, errors=errors)
         stack.callback(server.close)
-        driver.accept(reported)
+        server.drivers = [driver.accept(reported) for driver in drivers.values()]
         good = server.client()
-        assert comes(lambda: good.ask(b"GET VAR su ups.status\n").startswith(b"VAR"))
-        yield server, driver, good
+        for it in upses:
+            assert comes(lambda: good.ask(b"GET VAR %s ups.status\n" % it.encode()).startswith(b"VAR"))  # noqa: B023
+        yield server, server.drivers[-1], good
