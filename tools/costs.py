@@ -18,10 +18,12 @@ import random
 import re
 import select
 import signal
+import socket
 import statistics
 import subprocess
 import sys
 import tempfile
+import threading
 import time
 
 TOP = pathlib.Path(__file__).resolve().parent.parent
@@ -35,6 +37,8 @@ ROUNDS, SEED = 3, 20261127
 SECONDS = 3  # that a row of the times takes a round
 IDLE_MINUTES, ASKS_EACH = 3, 5  # seconds, as upsmon does
 SIZES = {"small": (100, 10), "large": (4096, 256)}
+HUGE = (32768, 10)
+TOO_LONG = b"x" * 3000 + b"\n"
 CALLGRIND = ["valgrind", "--tool=callgrind", "--callgrind-out-file=/dev/null"]
 COMMANDS = {
     "ours": [UPSD, "serve", "--ups", "{folder}/upses.conf", "--users", "{folder}/upsd.users", "--listen", "127.0.0.1:{port}", "--maxage", "{max_age}"],
@@ -190,6 +194,80 @@ def clients(server, count):
     return [server.client() for _ in range(count)]
 
 
+@contextlib.contextmanager
+def behind(work):
+    """Does this in a thread while the block runs. It is handed what says that the block is over."""
+    over = threading.Event()
+    thread = threading.Thread(target=work, args=[over])
+    thread.start()
+    try:
+        yield
+    finally:
+        over.set()
+        thread.join()
+
+
+def comes_and_goes(driver):
+    """The driver is lost, comes again and reports 32,768 variables, again and again."""
+    text = reports(*HUGE)[0]
+
+    def work(over):
+        while not over.is_set():
+            driver.lose()
+            driver.accept(text)
+            while not (over.is_set() or driver.is_read()):
+                time.sleep(0.01)
+
+    return behind(work)
+
+
+@contextlib.contextmanager
+def leaving(server, driver):
+    """62 clients stop within listings, between which all values change. After a second they leave."""
+    changed, peers = reports(*SIZES["large"]), clients(server, 62)
+    for number, peer in enumerate(peers):
+        peer.send(LONG)
+        driver.send(changed[number % 2])
+        while not driver.is_read():
+            time.sleep(0.001)
+
+    def leave(over):
+        over.wait(1)
+        for peer in peers:
+            peer.close()
+
+    with behind(leave):
+        yield
+
+
+@contextlib.contextmanager
+def again_and_again(server):
+    """40 clients send lines that are too long. Whoever is closed comes again."""
+    child = os.fork()
+    if child == 0:
+        try:
+            peers = {}
+            while True:
+                while len(peers) < 40:
+                    peer = socket.create_connection(("127.0.0.1", server.port))
+                    peer.setblocking(False)
+                    peers[peer] = None
+                for peer in select.select([], list(peers), [])[1]:
+                    try:
+                        peer.send(TOO_LONG)
+                    except BlockingIOError:
+                        pass
+                    except OSError:
+                        peer.close()
+                        del peers[peer]
+        finally:
+            os._exit(1)
+    time.sleep(0.5)
+    yield
+    os.kill(child, signal.SIGKILL)
+    os.waitpid(child, 0)
+
+
 LONG, RW, CMD = b"LIST VAR large\n", b"LIST RW large\n" * 140, b"LIST CMD large\n" * 128
 MEANWHILE = {
     "nothing": lambda *_: contextlib.nullcontext(),
@@ -197,6 +275,10 @@ MEANWHILE = {
     "62 clients ask half as often as the slower server can": lambda server, _, rates: asked(server, rates, min(rates[:2]) // 2),
     "60 clients stopped within a listing": lambda server, *_: beside(clients(server, 60), LONG, floods=False),
     "another driver writes without pause": lambda _, drivers, __: beside([drivers["large"]], reports(*SIZES["large"])[0]),
+    "a driver of 32,768 variables comes and goes": lambda _, drivers, __: comes_and_goes(drivers["huge"]),
+    "62 clients leave, each with a version of its own": lambda server, drivers, _: leaving(server, drivers["large"]),
+    "1 client sends empty lines": lambda server, *_: beside(clients(server, 1), b"\n" * 65536),
+    "40 clients send lines that are too long": lambda server, *_: again_and_again(server),
 } | {
     f"{count} client{'s ask' if count > 1 else ' asks'} `{text[:text.index(b' large')].decode()}` without pause": lambda server, *_, text=text, count=count: beside(clients(server, count), text)
     for text in (RW, CMD) for count in (1, 10, 40)
@@ -207,7 +289,7 @@ def times():
     """What is found of each server meanwhile, in rounds in which they take turns."""
     found = {what: {kind: [] for kind in COMMANDS} for what in MEANWHILE}
     with contextlib.ExitStack() as stack:
-        servers = {kind: stack.enter_context(served(kind, SIZES)) for kind in COMMANDS}
+        servers = {kind: stack.enter_context(served(kind, {**SIZES, "huge": (1, 10)})) for kind in COMMANDS}
         for _, drivers in servers.values():
             drivers["large"].send(b"".join(b"ADDCMD c%d\n" % number for number in range(64)))
         for _ in range(ROUNDS):
