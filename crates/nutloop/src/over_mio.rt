@@ -1,27 +1,22 @@
 //! The sockets over `mio`: clients come over TCP, and drivers are connected to over Unix sockets.
-ghost use Rattle.std.specs.Prelude.{◌≡◌, ◌≤◌, ◌*◌, ◌+◌, ◌-◌, ◌^◌, ◌∷◌, min, [], IfErr, IfOk, IfSome, MatchOption, None, Some, length};
+ghost use Rattle.std.specs.Prelude.{◌≡◌, ◌≤◌, ◌+◌, ◌-◌, ◌^◌, ◌∷◌, min, [], IfErr, IfOk, IfSome, MatchOption, length};
 ghost use Rattle.nutloop.specs.Doors.{is_one_of};
-ghost use Rattle.std.specs.Option.{option_map};
 ghost use Rattle.nutio.specs.Ends.{IsCounted};
-ghost use Rattle.nutloop.specs.Sockets.{Answers, AtMost, Begins, HasNextTurn, Knows, Looks, ReportsCall, read_call};
-ghost use Rattle.mio.specs.Events.{items};
-ghost use Rattle.std.specs.Duration.{as_nanos};
-ghost use Rattle.nutloop.specs.Waking.{due_tick, tick_in};
-ghost use Rattle.nutloop.specs.Ids.{HandsIn, due_after, id_in};
-ghost use Rattle.nuttracking.specs.Tracking.{missing_ids};
-ghost use Rattle.nutloop.specs.Places.{BecomesOf, Decides, LetsGo, NobodyIsSilent, SendsAway};
+ghost use Rattle.nutloop.specs.Sockets.{Answers, AtMost, HasNextTurn, Knows, Looks, ReportsCall, read_call};
+ghost use Rattle.nutloop.specs.Ids.{HandsIn, id_in};
 ghost use Rattle.nutloop.specs.NutBytes.{HandsOn};
-ghost use Rattle.nutloop.specs.OverMio.{read_of_client, AreNew, ClientsHear, DriversHear, GivesTurn, Hears, StayInTheirPlaces, TouchesOnly, error_of, may_at, newcomer_of, passing_of, told_of};
+ghost use Rattle.nutloop.specs.OverMio.{AreNew, GivesTurn, StayInTheirPlaces, TouchesOnly, error_of, may_at, newcomer_of, passing_of, read_of_client, told_of};
 ghost use Rattle.nutloop.specs.Pass.{IsOver};
 ghost use Rattle.nutloop.specs.declared.over_mio.TheConstants.{READ_PER_LOOK};
 ghost use Rattle.nutcore.specs.declared.event.Peer.TheVariants.{Client};
-ghost use Rattle.nutloop.specs.Waking.{wake_second};
 ghost use Rattle.nutloop.specs.declared.sockets.Call.TheVariants.{Accepted, Named, Refused, Shut, Wrote};
 
 mod clients;
 mod closing;
 mod door;
 mod drivers;
+mod looking;
+mod newcomers;
 mod nut_bytes;
 mod pass;
 mod places;
@@ -32,23 +27,22 @@ use crate::sockets::{Broken, Got, Ready, Sockets};
 use crate::{CannotListen, Ids};
 use arrayvec::ArrayVec;
 pub use clients::Leave;
-use clients::{Clients, hear_client, place_of, take_in};
-use closing::{CLOSING_LIMIT, Closing, close, first_end, hear_all, is_any_readable};
+use clients::{Clients, place_of, take_in};
+use closing::{CLOSING_LIMIT, Closing, close};
 pub use door::DOOR_LIMIT;
-use door::{Entrance, Newcomer};
-use drivers::{Driver, Drivers, connect, hear_driver, is_any_absent};
+use door::Entrance;
+use drivers::{Driver, Drivers, connect};
 use mio::{Events, Poll};
 use nut_bytes::keep;
 use nutcore::{ClientId, Peer, Server, UpsId};
 use nutwords::Address;
 use pass::{Pass, Stop, Way};
-use places::{Admission, admits, end_silent, first_silent, places_at, taken_places, who_has_most};
+use places::{places_at, taken_places, who_has_most};
 use std::alloc::Global;
 use std::io;
 use std::io::Read;
 use std::net::{Net, SocketAddr};
-use std::time::{Clock, Duration, Instant};
-use tokens::Source;
+use std::time::{Clock, Instant};
 
 /// The most events that a poll reports. The next one reports the others.
 const EVENT_LIMIT: usize = 256;
@@ -304,132 +298,6 @@ impl<'a, R: Net + Clock, F: Read + Drop> MioSockets<'a, R, F> {
         })
     }
 
-    /// Asks the system, and waits for it where nobody had a turn and nothing is due; and the clock.
-    /// A tick, where the clock has a later second than the server, or else the first turn of a new
-    /// pass.
-    fn first_turn(&mut self, server: &Server, soon: bool) -> io::Result<Ready>
-        ensures begins { IfOk result (λ ready.
-            Begins server.now.state ready (Some (passing_of self.new))) }
-        ensures ids { IfOk result (λ ready. IfSome (tick_in ready) (λ second.
-            option_map (λ ids. ids.due) self.new.ids
-            ≡ option_map (λ ids. due_after self.old.rules.refills_ids
-            (missing_ids server.now.state.tracking) (second - self.old.second) ids.due)
-            self.old.ids)) }
-        ensures silent { IfOk result (λ ready. IfSome (tick_in ready) (λ second.
-            NobodyIsSilent server.now.state self.old.rules.idle second self.new.clients.items)) }
-        ensures failures { self.new.failures ≡ self.old.failures }
-        ensures stay { StayInTheirPlaces self.old.clients.items self.new.clients.items }
-    {
-        let until = self.wakes_at(server, soon);
-        self.wait(server, soon, until)?;
-        self.hear();
-        self.pass = Pass::default();
-        self.read_since = 0;
-        let last = self.second;
-        self.second = self.start.elapsed(self.rt)?.as_secs();
-        self.close_what_ended();
-        let Some(second) = due_tick(server.current_moment(), self.second) else {
-            return Ok(self.visit(server).unwrap_or(Ready::Nothing));
-        };
-        self.refill_ids(server, second.saturating_sub(last));
-        self.entrance.next_second();
-        self.end_silent(server);
-        connect(self.rt, self.poll.registry(), &mut self.drivers, server);
-        Ok(Ready::Tick(second))
-    }
-
-    /// Connections whose sessions have ended are read on, or closed.
-    fn close_what_ended(&mut self)
-        ensures { self.new ≡ record self.old { closing = self.new.closing } }
-    {
-        let second = self.second;
-        if !self.closing.is_empty() {
-            self.closing
-                .retain_mut(|connection| connection.goes_on(second));
-        }
-    }
-
-    /// So many seconds went by, for which ids are due.
-    fn refill_ids(&mut self, server: &Server, seconds: u64)
-        ensures only { self.new ≡ record self.old { ids = self.new.ids } }
-        ensures due { option_map (λ ids. ids.due) self.new.ids
-            ≡ option_map (λ ids. due_after self.old.rules.refills_ids
-            (missing_ids server.now.state.tracking) seconds ids.due) self.old.ids }
-    {
-        if let Some(ids) = &mut self.ids {
-            if self.rules.refills_ids {
-                ids.refill(server.missing_ids());
-            } else {
-                ids.tick(seconds);
-            }
-        }
-    }
-
-    /// Ends the clients that were silent for as long as one may be.
-    fn end_silent(&mut self, server: &Server)
-        ensures only { self.new ≡ record self.old { clients = self.new.clients } }
-        ensures nobody { NobodyIsSilent server.now.state self.old.rules.idle self.old.second
-            self.new.clients.items }
-        ensures stay { StayInTheirPlaces self.old.clients.items self.new.clients.items }
-    {
-        if let Some(idle) = self.rules.idle {
-            end_silent(server, self.clients.as_mut_slice(), idle, self.second);
-        }
-    }
-
-    /// The second up to which a look may wait: nothing is due before it.
-    fn wakes_at(&self, server: &Server, soon: bool) -> u64
-        ensures { result ≡ wake_second server.now.state soon self.now }
-    {
-        if self.pass.had_turn || is_any_readable(self.closing.as_slice()) {
-            return 0;
-        }
-        let mut due = server.due().min(first_end(self.closing.as_slice()));
-        if let Some(idle) = self.rules.idle {
-            due = due.min(first_silent(self.clients.as_slice(), idle, self.second));
-        }
-        let is_retried = self.entrance.is_tried_again();
-        let again = is_retried || is_any_absent(self.drivers.as_slice(), server);
-        if soon || again {
-            due.min(self.second.saturating_add(1))
-        } else {
-            due
-        }
-    }
-
-    /// Asks the system what is ready, and waits for it up to this second. It asks again where the
-    /// wait reports nothing: it was over, or a signal cut it short while somebody asked, as one
-    /// does that lets a stopped server go on.
-    fn wait(&mut self, server: &Server, soon: bool, until: u64) -> io::Result<()>
-        requires awake { until ≤ wake_second server.now.state soon self.old }
-        ensures { self.new
-            ≡ record self.old { poll = self.new.poll; events = self.new.events } }
-    {
-        let most = match until {
-            0 => Duration::ZERO,
-            _ => up_to(until, self.start.elapsed(self.rt)?),
-        };
-        self.poll.poll(&mut self.events, Some(most))?;
-        if self.events.is_empty() && !most.is_zero() {
-            self.poll.poll(&mut self.events, Some(Duration::ZERO))?;
-        }
-        Ok(())
-    }
-
-    /// Notes what the system reports.
-    fn hear(&mut self)
-        ensures { Hears (items self.old.events) self.old self.new }
-    {
-        let (drivers, clients) = (&mut self.drivers, &mut self.clients);
-        hear(
-            &self.events,
-            &mut self.entrance,
-            drivers,
-            clients,
-            &mut self.closing,
-        );
-    }
-
     /// What is handed on of a read: all of it, or what NUT's server keeps where that is asked for.
     fn kept(&self, p: Peer, read: Result<Got, Broken>, into: &mut [u8]) -> Result<Got, Broken>
         requires { AtMost read into.old }
@@ -456,89 +324,6 @@ impl<'a, R: Net + Clock, F: Read + Drop> MioSockets<'a, R, F> {
         }
         answer
     }
-
-    /// What becomes of a newcomer. Who was given way enters once the other one has left.
-    fn decision(&self, server: &Server, newcomer: &Newcomer) -> Option<Admission>
-        ensures { Decides server.now.state self.now newcomer.now result }
-    {
-        let clients = self.clients.as_slice();
-        if let Some(c) = newcomer.awaits {
-            let place = place_of(clients, self.here, c);
-            return match clients.get(place) {
-                Some(Some(_)) => None,
-                _ => Some(Admission::Enters),
-            };
-        }
-        let kept = match newcomer.is_of_this_machine {
-            true => 0,
-            false => self.rules.kept_places,
-        };
-        Some(admits(server, clients, kept, self.second))
-    }
-
-    /// The address of the newcomer, if there is one and it enters. It waits while another client
-    /// gives way to it.
-    fn admit(&mut self, server: &Server) -> Option<Address>
-        ensures { MatchOption self.old.entrance.newcomer
-            ((result ≡ None) × (self.new ≡ self.old))
-            (λ x. BecomesOf server.now.state x self.old result self.new) }
-    {
-        let newcomer = self.entrance.newcomer.as_ref()?;
-        match self.decision(server, newcomer)? {
-            Admission::Enters => return Some(newcomer.address.copied()),
-            Admission::After(place) => self.let_go(place),
-            Admission::SentAway => self.send_away(),
-        }
-        None
-    }
-
-    /// The client of this place gives way to the newcomer.
-    fn let_go(&mut self, place: usize)
-        ensures { LetsGo place self.old self.new }
-    {
-        let second = self.second;
-        if let Some(slot) = self.clients.get_mut(place) {
-            if let Some(client) = slot {
-                client.go(Leave::GaveWay(client.silence(second)));
-                if let Some(newcomer) = &mut self.entrance.newcomer {
-                    newcomer.awaits = Some(client.id);
-                }
-            }
-        }
-    }
-
-    /// The newcomer is sent away.
-    fn send_away(&mut self)
-        ensures { SendsAway self.old self.new }
-    {
-        self.sent_away = self
-            .entrance
-            .newcomer
-            .take()
-            .map(|newcomer| newcomer.address);
-    }
-}
-
-/// All whose events these are hear them.
-fn hear(
-    events: &Events,
-    entrance: &mut Entrance,
-    drivers: &mut Drivers,
-    clients: &mut Clients,
-    closing: &mut Vec<Closing>,
-)
-    ensures newcomer { entrance.new ≡ record entrance.old { doors = entrance.new.doors } }
-    ensures clients { ClientsHear (items events.now) clients.old.items clients.new.items }
-    ensures drivers { DriversHear (items events.now) drivers.old.items drivers.new.items }
-{
-    for event in events.iter() {
-        match Source::of(event.token()) {
-            Source::Listener => entrance.hear(),
-            Source::Driver(place) => hear_driver(drivers, place, event),
-            Source::Client(place) => hear_client(clients, place, event),
-            Source::Closing => hear_all(closing),
-        }
-    }
 }
 
 /// How many bytes a read gave of a client.
@@ -549,20 +334,6 @@ fn read_of_client(p: Peer, answer: Result<Got, Broken>) -> usize
         (Peer::Client(_), Ok(Got::Bytes(n))) => n,
         _ => 0,
     }
-}
-
-/// How long it is up to this second, so long after the start.
-fn up_to(second: u64, elapsed: Duration) -> Duration
-    ensures { as_nanos result ≡ second * 1_000_000_000 - as_nanos elapsed }
-{
-    Duration::from_secs(second).saturating_sub(elapsed)
-}
-
-/// The second of the tick that is due, where the server has this moment and the clock is at `now`.
-fn due_tick(moment: u64, now: u64) -> Option<u64>
-    ensures { result ≡ due_tick moment now }
-{
-    (moment < now).then_some(now)
 }
 
 impl<'a, R: Net + Clock, F: Read + Drop> Sockets for MioSockets<'a, R, F> {

@@ -6,7 +6,7 @@ use Rattle.nutloop.specs.OverMio.{client_heard, driver_heard}
 use Rattle.nutloop.specs.Pass.{client_in}
 use Rattle.nutloop.specs.Tokens.{source_of}
 use Rattle.nutloop.proofs.Hearing.{all_hear, own_hears}
-use Rattle.nutloop.proofs.over_mio.hear.Goals as goal
+use Rattle.nutloop.proofs.over_mio.looking.hear.Goals as goal
 
 pub loop-event-preserved-in-Listener : goal.loop-event-preserved-in-Listener
 loop-event-preserved-in-Listener c =

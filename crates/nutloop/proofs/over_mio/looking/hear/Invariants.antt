@@ -1,7 +1,7 @@
 use Rattle.std.proofs.Common.{◌≡◌}
 use Rattle.std.specs.Prelude.{map}
 use Rattle.nutloop.specs.OverMio.{ClientsHear, DriversHear}
-use Rattle.nutloop.proofs.over_mio.hear.Given as goal
+use Rattle.nutloop.proofs.over_mio.looking.hear.Given as goal
 
 abbrev pub invariant-loop-event : goal.invariant-loop-event
 invariant-loop-event l =
