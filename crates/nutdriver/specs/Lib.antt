@@ -11,3 +11,4 @@ pub mod Report
 pub mod Sound
 pub mod LastLine
 pub mod Additions
+pub mod Waste

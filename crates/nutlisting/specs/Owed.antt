@@ -1,8 +1,8 @@
 -- What a session owes.
 use Rattle.std.specs.Prelude.{◌≡◌, ℕ, ◌<◌, ◌≤◌, ◌||◌, List, [], ◌++◌, length, Option, None, Some}
-use Rattle.std.specs.Prelude.{MatchOption, IsTrue, is_some, codes}
+use Rattle.std.specs.Prelude.{MatchOption, IsTrue, is_some, codes, Bool, false, not}
 use Rattle.std.specs.Str.{bytes_eq}
-use Rattle.nutlisting.specs.Items.{Position, rest}
+use Rattle.nutlisting.specs.Items.{ListingState, Position, rest}
 use Rattle.nutlisting.specs.declared.outbox.TheConstants.{QUEUE_LIMIT}
 
 pub record Owes : Type 0 where
@@ -32,3 +32,12 @@ abbrev pub HasPlaceForClients : Option Position → Option (List (List ℕ)) →
 HasPlaceForClients None clients = IsTrue (is_some clients)
 HasPlaceForClients (Some c) clients =
     IsTrue (is_some clients || bytes_eq c.listing.kind (codes "CLIENT"))
+
+-- The listing is of a version of a tree.
+abbrev pub lists_tree : ListingState → Bool
+lists_tree l = not (bytes_eq l.kind (codes "UPS") || bytes_eq l.kind (codes "CLIENT"))
+
+-- A listing of a version has ended, of the cursors before and after.
+abbrev pub leaves_tree : Option Position → Option Position → Bool
+leaves_tree (Some cursor) None = lists_tree cursor.listing
+leaves_tree _ _ = false

@@ -6,7 +6,7 @@ ghost use Rattle.std.specs.Str.{bytes_eq};
 ghost use Rattle.nutlisting.specs.Counts.{lines, count_more};
 ghost use Rattle.nutlisting.specs.Counts.{what_fits, what_stays};
 ghost use Rattle.nutlisting.specs.Items.{text_of, client_listing};
-ghost use Rattle.nutlisting.specs.Owed.{owed, rest_of, IsOutbox, HasPlaceForClients};
+ghost use Rattle.nutlisting.specs.Owed.{owed, rest_of, IsOutbox, HasPlaceForClients, leaves_tree};
 ghost use Rattle.nutlisting.specs.Items.{rest};
 ghost use Rattle.nutusers.specs.declared.limits.TheConstants.{SESSION_LIMIT};
 ghost use Rattle.nutlisting.specs.declared.outbox.TheConstants.{OWED_LIMIT};
@@ -14,6 +14,7 @@ ghost use Rattle.nutlisting.specs.declared.outbox.TheConstants.{QUEUE_LIMIT};
 
 use crate::cursor::Cursor;
 use crate::listing::{Clients, Listing};
+use nutdriver::Tree;
 use nutio::ByteQueue;
 use nutwords::{Line, UpsName};
 use std::alloc::{AllocError, Global};
@@ -123,7 +124,8 @@ impl Outbox {
     {
         drop(self.cursor.replace(Cursor::start(listing)));
         let (queue, clients) = (&mut self.queue, &mut self.clients);
-        drain(&mut self.cursor, queue, clients, line, renders);
+        // Its UPS has the version still that is left of it.
+        drop(drain(&mut self.cursor, queue, clients, line, renders));
     }
 
     /// Joins the listing of these clients of a UPS. In their place it leaves room for as many. It
@@ -150,11 +152,12 @@ impl Outbox {
         let place = self.clients.take().unwrap();
         drop(self.cursor.replace(clients_cursor(ups, clients, place)));
         let (queue, clients) = (&mut self.queue, &mut self.clients);
-        drain(&mut self.cursor, queue, clients, line, renders);
+        drop(drain(&mut self.cursor, queue, clients, line, renders));
     }
 
-    /// The client took so many bytes, and the queue is filled again. It takes no memory.
-    pub fn take(&mut self, n: usize, line: &mut Line, renders: &mut u64)
+    /// The client took so many bytes, and the queue is filled again. The answer is the version of a
+    /// tree that is left of a listing which ended by that. It takes no memory.
+    pub fn take(&mut self, n: usize, line: &mut Line, renders: &mut u64) -> Option<Tree>
         requires { n ≤ length self.old.queue }
         ensures owed { owed self.new ≡ drop n (owed self.old) }
         ensures queue { self.new.queue
@@ -164,10 +167,20 @@ impl Outbox {
         ensures outbox { IsOutbox self.old.queue self.old.cursor }
         ensures counts { renders.new ≡ count_more renders.old
             (lines (what_fits (drop n self.old.queue) (rest_of self.old.cursor))) }
+        ensures version { is_some result ≡ leaves_tree self.old.cursor self.new.cursor }
     {
         self.queue.drop_front(n);
         let (queue, clients) = (&mut self.queue, &mut self.clients);
-        drain(&mut self.cursor, queue, clients, line, renders);
+        drain(&mut self.cursor, queue, clients, line, renders)
+    }
+
+    /// What is left of it: the version of a tree that it lists.
+    pub fn into_version(self) -> Option<Tree>
+        ensures { is_some result ≡ leaves_tree self.cursor None }
+    {
+        let (version, clients) = self.cursor?.into_parts();
+        drop(clients);
+        version
     }
 }
 
@@ -179,15 +192,15 @@ fn clients_cursor(ups: &UpsName, clients: &mut Clients, place: Clients) -> Curso
     Cursor::start(Listing::of_clients(ups, mem::replace(clients, place)))
 }
 
-/// Fills the queue from the cursor, if there is one. Once nothing rests, the cursor goes and gives
-/// back its place for clients.
+/// Fills the queue from the cursor, if there is one. Once nothing rests, the cursor goes, gives back
+/// its place for clients, and leaves its version of a tree.
 fn drain(
     cursor: &mut Option<Cursor>,
     queue: &mut ByteQueue<QUEUE_LIMIT>,
     clients: &mut Option<Clients>,
     line: &mut Line,
     renders: &mut u64,
-)
+) -> Option<Tree>
     requires queue { length queue.old ≤ QUEUE_LIMIT }
     requires clients { HasPlaceForClients cursor.old clients.old }
     ensures outbox { IsOutbox queue.new cursor.new }
@@ -196,16 +209,19 @@ fn drain(
     ensures rest { rest_of cursor.new ≡ what_stays queue.old (rest_of cursor.old) }
     ensures counts { renders.new ≡ count_more renders.old
         (lines (what_fits queue.old (rest_of cursor.old))) }
+    ensures version { is_some result ≡ leaves_tree cursor.old cursor.new }
 {
     // The proof reads here that the count is a number of 64 bits.
     let _count = *renders;
     let Some(begun) = cursor else {
-        return;
+        return None;
     };
     if !begun.fill(queue, line, renders) {
-        return;
+        return None;
     }
-    if let Some(place) = cursor.take().and_then(|done| done.into_clients()) {
-        *clients = Some(place);
+    let (version, place) = cursor.take()?.into_parts();
+    if place.is_some() {
+        *clients = place;
     }
+    version
 }

@@ -7,6 +7,7 @@ ghost use Rattle.nutmap.specs.Entries.{ChangesValue};
 ghost use Rattle.nutmap.specs.Digits.{most_nodes};
 ghost use Rattle.nutmap.specs.Entries.{value_at, entry_after, entries_after, HasRisingKeys};
 ghost use Rattle.nutmap.specs.Marked.{marked_after, KeepsMarks};
+ghost use Rattle.nutmap.specs.Tree.{entries_of};
 ghost use Rattle.nutmap.specs.Meter.{counted_up};
 
 use crate::change::change_in_place;
@@ -158,6 +159,13 @@ impl<K: Ord + Drop, V: Marked> Map<K, V> {
             root: shared(&self.root)?,
             len: self.len,
         })
+    }
+
+    /// Its tree.
+    pub(crate) fn into_root(self) -> Link<K, V>
+        ensures { entries_of result ≡ self }
+    {
+        self.root
     }
 
     /// Changes the value of a key in its place, and answers whether it did: it doesn't, and the map

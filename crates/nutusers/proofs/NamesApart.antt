@@ -1,17 +1,28 @@
 -- No two sections of an accepted file have one name, so the names rise once they are sorted.
-use Rattle.std.proofs.Common.{◌≡◌, ℕ, List, [], ◌∷◌, map, reverse, Bool, true, false}
+use Rattle.std.proofs.Common.{◌≡◌, suc, ◌+◌, ◌<◌, ℕ, List, [], ◌∷◌, map, reverse, Bool, true, false}
 use Rattle.std.proofs.Common.{◌||◌, not, cond, Option, None, Some, is_some, refl, sym, ap}
-use Rattle.std.proofs.Common.{subst, ◌∙◌}
+use Rattle.std.proofs.Common.{subst, ◌∙◌, arith, length, get_or, Result, Ok, Err, inl, inr}
+use Rattle.std.specs.Prelude.{MatchResult}
 use Rattle.std.specs.Cmp.{IsTotalOrder}
-use Rattle.std.specs.List.{find, list_any, IsDistinct, AllByRecursion, dedup, dedup_from}
-use Rattle.std.specs.List.Sorted.{IsPermutation, IsSorted, IsStrictlySortedBy}
-use Rattle.std.specs.Ordering.{eq_by_cmp, is_eq}
+use Rattle.std.specs.List.{find, list_any, Contains, IsDistinct, AllByRecursion, dedup, dedup_from}
+use Rattle.std.specs.List.{position_or_len, slice_get}
+use Rattle.std.specs.List.Sorted.{IsPermutation, IsSorted, IsSortedBy, IsStrictlySortedBy, IsSearchInRange}
+use Rattle.std.specs.List.Sorted.{IsBinarySearchResult}
+use Rattle.std.specs.Ordering.{eq_by_cmp, is_eq, is_lt, ordering_reverse}
+use Rattle.std.specs.declared.cmp.Ordering.TheVariants.{Equal}
+use Rattle.std.proofs.lemmas.Bool.{cases_Bool, cases_lt}
+use Rattle.std.proofs.lemmas.List.Folds.{find_at}
+use Rattle.std.proofs.lemmas.List.Sums.{position_or_len_is}
+use Rattle.std.proofs.lemmas.Option.{slice_get-get_or, slice_get_past}
+use Rattle.std.proofs.lemmas.Slice.Eq.{bytes_eq-Decides}
 use Rattle.std.specs.Str.{bytes_eq}
 use Rattle.std.specs.declared.cmp.Ordering.{Ordering}
 use Rattle.std.proofs.lemmas.Cmp.{nat_list_cmp_total, eq_by_cmp_equiv}
 use Rattle.std.proofs.lemmas.List.Kept.{IsStrictlySortedBy-dedup}
-use Rattle.std.proofs.lemmas.List.Sorted.{IsPermutation-reverse, list_any-IsPermutation}
+use Rattle.std.proofs.lemmas.List.Sorted.{Contains-permutation, IsPermutation-reverse, list_any-IsPermutation}
+use Rattle.std.proofs.lemmas.List.Sorted.{searchable_from_sorted}
 use Rattle.std.proofs.lemmas.Map.Keys.{IsDistinct-cons, IsDistinct-head, IsDistinct-tail, IsDistinct-IsPermutation}
+use Rattle.std.proofs.lemmas.Map.Keys.{IsDistinct-from_sorted, Less-from_sorted, apart_from_distinct}
 use Rattle.std.proofs.lemmas.Map.Text.{is_eq-slice_cmp}
 use Rattle.nutusers.specs.ConfigLine.{ConfigLine, silent, malformed, section, setting, upsmon, read_config_line}
 use Rattle.nutusers.specs.File.{AreAccepted}
@@ -44,6 +55,20 @@ pub record HasNames {A : Type 0} (name_of : A → List ℕ) (of : List ℕ × Li
   pub named : (name : List ℕ) (lines : List ConfigLine) → name_of (of (name, lines)) ≡ name
   pub is_new : (all : List A) (name : List ℕ) → fault all (section name) ≡ None →
       is_some (find (λ a. bytes_eq (name_of a) name) all) ≡ false
+
+-- what is found is there, and passes
+found_is : {X : Type 0} (p : X → Bool) (xs : List X) (x : X) → find p xs ≡ Some x → Contains xs x × (p x ≡ true)
+found_is p [] x h = absurd (cc h)
+found_is p (y ∷ ys) x h = elim (cases_Bool (p y)) [
+  | inl passes ↦ (let same : y ≡ x = cc (rw passes at h) in ((0, omega arith, same), sym (ap p same) ∙ passes))
+  | inr other ↦ (let rest = found_is p ys x (rw other at h) in
+      ((suc rest.0.0, omega (arith, rest.0.1), rest.0.2), rest.1))
+]
+
+-- what isn't any isn't found
+none_found : {X : Type 0} (p : X → Bool) (xs : List X) → list_any p xs ≡ false → find p xs ≡ None
+none_found p [] h = refl
+none_found p (x ∷ xs) h = let parts = or-false (p x) (list_any p xs) h in rw parts.0 (none_found p xs parts.1)
 
 module _ {A : Type 0} (name_of : A → List ℕ) where
   -- their order is that of the names
@@ -79,18 +104,6 @@ module _ {A : Type 0} (name_of : A → List ℕ) where
   unfolding IsDistinct
   none_apart = tt
 
-  same_with_none : (x : A) (xs : List A) → AllByRecursion (λ y. same_name x y ≡ false) xs →
-      AllByRecursion (λ y. bytes_eq (name_of x) (name_of y) ≡ false) xs
-  same_with_none x [] h = tt
-  same_with_none x (y ∷ xs) h = (sym (is_eq-slice_cmp (name_of x) (name_of y)) ∙ h.0, same_with_none x xs h.1)
-
-  -- no two names are the same bytes
-  pub names_apart : (xs : List A) → IsDistinct same_name xs →
-      IsDistinct (λ x y. bytes_eq (name_of x) (name_of y)) xs
-  unfolding IsDistinct
-  names_apart [] h = tt
-  names_apart (x ∷ xs) h = (same_with_none x xs h.0, names_apart xs h.1)
-
   -- nothing is dropped where no two are the same
   dedup_from-apart : (k : A) (xs : List A) → IsDistinct same_name (k ∷ xs) →
       dedup_from same_name k xs ≡ k ∷ xs
@@ -111,10 +124,79 @@ module _ {A : Type 0} (name_of : A → List ℕ) where
       (dedup-apart list (IsDistinct-IsPermutation same_name flips all list same apart))
       (IsStrictlySortedBy-dedup name_order_total (λ x y. refl) list sorted)
 
-  -- one name rises
+  -- no name rises, and one
+  pub none_rises : IsStrictlySortedBy name_order []
+  unfolding IsStrictlySortedBy
+  none_rises = tt
+
   pub rising_one : (x : A) → IsStrictlySortedBy name_order (x ∷ [])
   unfolding IsStrictlySortedBy
   rising_one x = (tt, tt)
+
+  -- what stands at a place is found by its name, where no two names are the same
+  found_there : (name : List ℕ) (xs : List A) (i : ℕ) (d : A) → IsDistinct same_name xs →
+      i < length xs → name_of (get_or xs i d) ≡ name →
+      find (λ a. bytes_eq (name_of a) name) xs ≡ Some (get_or xs i d)
+  found_there name xs i d apart within here =
+      let p : A → Bool = λ a. bytes_eq (name_of a) name in
+      let first : position_or_len p xs ≡ i = position_or_len_is p xs i d (omega (arith, within))
+      (λ k below. ap (bytes_eq (name_of (get_or xs k d))) (sym here) ∙ sym (is_eq-slice_cmp (name_of (get_or xs k d)) (name_of (get_or xs i d))) ∙
+      apart_from_distinct same_name xs k i d apart below within)
+      (λ h. (bytes_eq-Decides (name_of (get_or xs i d)) name).1 here) in
+      find_at p xs ∙ ap (slice_get xs) first ∙ slice_get-get_or xs i d within
+
+  none_there : (name : List ℕ) (xs : List A) (d : A) →
+      ((k : ℕ) → k < length xs → bytes_eq (name_of (get_or xs k d)) name ≡ false) →
+      find (λ a. bytes_eq (name_of a) name) xs ≡ None
+  none_there name xs d none =
+      let p : A → Bool = λ a. bytes_eq (name_of a) name in
+      let all : position_or_len p xs ≡ length xs = position_or_len_is p xs (length xs) d
+      (omega arith) none (λ (h : length xs < length xs). absurd (omega arith)) in
+      find_at p xs ∙ ap (slice_get xs) all ∙ slice_get_past xs (length xs) (omega arith)
+
+  -- a name finds the same in any order
+  alike : (name : List ℕ) (xs ys : List A) → IsDistinct same_name xs → IsPermutation xs ys →
+      (found : Option A) → find (λ a. bytes_eq (name_of a) name) xs ≡ found →
+      find (λ a. bytes_eq (name_of a) name) ys ≡ found
+  alike name xs ys apart same None none =
+      let p : A → Bool = λ a. bytes_eq (name_of a) name in
+      none_found p ys (sym (list_any-IsPermutation p xs ys same) ∙ sym (is_some-found p xs) ∙ ap is_some none)
+  alike name xs ys apart same (Some x) found =
+      let is = found_is (λ a. bytes_eq (name_of a) name) xs x found in
+      let there = Contains-permutation xs ys x same is.0 in
+      let name_is : name_of (get_or ys there.0 x) ≡ name =
+      ap name_of there.2 ∙ (bytes_eq-Decides (name_of x) name).0 is.1 in
+      found_there name ys there.0 x (IsDistinct-IsPermutation same_name flips xs ys same apart) there.1 name_is ∙
+      ap Some there.2
+
+  pub found_alike : (name : List ℕ) (xs ys : List A) → IsDistinct same_name xs → IsPermutation xs ys →
+      find (λ a. bytes_eq (name_of a) name) ys ≡ find (λ a. bytes_eq (name_of a) name) xs
+  found_alike name xs ys apart same = alike name xs ys apart same _ refl
+
+  -- names that rise are sorted
+  sorted_names : (xs : List A) → IsStrictlySortedBy name_order xs →
+      IsSortedBy (λ a b. is_lt (name_order a b)) xs
+  sorted_names xs rise k d low within =
+      let less = Less-from_sorted name_order xs k (k + 1) d rise (omega arith) within in
+      ap is_lt (name_order_total.antisymm _ _ ∙ ap ordering_reverse less)
+
+  same_bytes : (bytes name : List ℕ) → byte_order bytes name ≡ Equal → bytes ≡ name
+  same_bytes bytes name is = (bytes_eq-Decides bytes name).0 (sym (is_eq-slice_cmp bytes name) ∙ ap is_eq is)
+
+  -- what a search by halves answers: the one of this name, or that there is none
+  pub searched : (name : List ℕ) (xs : List A) (d : A) (r : Result ℕ ℕ) →
+      IsStrictlySortedBy name_order xs → IsSearchInRange r (length xs) →
+      IsBinarySearchResult (λ (y : A). byte_order (name_of y) name) xs r →
+      MatchResult r (λ i. find (λ a. bytes_eq (name_of a) name) xs ≡ Some (get_or xs i d))
+      (λ i. find (λ a. bytes_eq (name_of a) name) xs ≡ None)
+  searched name xs d (Ok i) rise within at =
+      found_there name xs i d (IsDistinct-from_sorted name_order xs rise) within (same_bytes _ name (at d))
+  searched name xs d (Err i) rise within parted =
+      let parts = parted (searchable_from_sorted nat_list_cmp_total name_of xs name (sorted_names xs rise)) in
+      none_there name xs d (λ k lt. sym (is_eq-slice_cmp _ name) ∙ elim (cases_lt k i) [
+        | inl below ↦ ap is_eq (parts.0 k d (omega arith) below)
+        | inr above ↦ ap is_eq (parts.1 k d above lt)
+      ])
 
 module _ {A : Type 0} {name_of : A → List ℕ} {of : List ℕ × List ConfigLine → A}
     {fault : List A → ConfigLine → Option Cause} (n : HasNames name_of of fault) where

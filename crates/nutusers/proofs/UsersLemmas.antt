@@ -1,7 +1,7 @@
 -- The users that the lines mean, a line at a time.
 use Rattle.std.proofs.Common.{◌≡◌, ℕ, true, false, List, [], ◌∷◌, ◌++◌, ◌∙◌}
 use Rattle.std.proofs.Common.{map, reverse, Option, None, Some, cond, codes, refl, sym, ap}
-use Rattle.std.specs.List.{find, filter_map, cons_option}
+use Rattle.std.specs.List.{find, filter_map, cons_option, IsDistinct}
 use Rattle.std.specs.Prelude.{option_map}
 use Rattle.std.specs.Str.{bytes_eq}
 use Rattle.std.proofs.lemmas.List.{map-append}
@@ -11,9 +11,9 @@ use Rattle.nutusers.specs.Sections.{value_in, sections}
 use Rattle.nutusers.specs.File.{AreAccepted}
 use Rattle.nutusers.specs.Credentials.{is_user_name}
 use Rattle.nutusers.specs.UsersFile.{user_of, users_of, section_of, user_line_fault, users_format}
-use Rattle.nutusers.specs.UsersFile.{RightsComeOfTheOwnSection}
-use Rattle.nutusers.specs.Users.{User, HaveOneNameEach, user_named}
-use Rattle.nutusers.proofs.NamesApart.{HasNames, not_there, names_apart, accepted_apart}
+use Rattle.nutusers.specs.UsersFile.{AreUsers, RightsComeOfTheOwnSection}
+use Rattle.nutusers.specs.Users.{User, user_named}
+use Rattle.nutusers.proofs.NamesApart.{HasNames, not_there, same_name, accepted_apart, found_alike}
 use Rattle.nutusers.specs.UsersStep.{new_user, with_user_line, with_grant, users_with}
 use Rattle.nutusers.specs.declared.rights.Grant.{Grant}
 use Rattle.nutusers.proofs.Progress.{reverse-cons}
@@ -44,9 +44,9 @@ users_names : HasNames (λ (user : User). user.name) user_of user_line_fault
 users_names = record { named = λ name lines. refl; is_new = λ all name fine. not_there (is_user_name name) _ _ fine }
 
 -- no two users of accepted lines have one name
-pub users_apart : (lines : List (List ℕ)) → AreAccepted users_format lines → HaveOneNameEach (users_of lines)
-users_apart lines fine = names_apart (λ (user : User). user.name) (users_of lines)
-    (accepted_apart users_names lines fine)
+pub users_apart : (lines : List (List ℕ)) → AreAccepted users_format lines →
+    IsDistinct (same_name (λ (user : User). user.name)) (users_of lines)
+users_apart lines fine = accepted_apart users_names lines fine
 
 -- a user is what the section of this name means
 map-reverse : {A B : Type 0} (f : A → B) (xs : List A) → map f (reverse xs) ≡ reverse (map f xs)
@@ -68,5 +68,13 @@ user_is : (name : List ℕ) (lines : List (List ℕ)) → user_named name (users
 user_is name lines = let ss = sections (map read_config_line lines) in
     ap (user_named name) (sym (map-reverse user_of ss)) ∙ named_in name (reverse ss)
 
+-- and is found in the order of the names
+named_by_name : (name : List ℕ) (lines : List (List ℕ)) (users : List User) → AreUsers lines users →
+    user_named name users ≡ option_map user_of (section_of name (reverse lines))
+named_by_name name lines users are =
+    found_alike (λ (user : User). user.name) name (users_of (reverse lines)) users
+    (users_apart (reverse lines) are.accepted) are.same ∙ user_is name (reverse lines)
+
 pub rights_of_section : RightsComeOfTheOwnSection
-rights_of_section lines other name password right same = rw (user_is name lines, user_is name other, same) refl
+rights_of_section lines other users others name password right are are_others same =
+    rw (named_by_name name lines users are, named_by_name name other others are_others, same) refl

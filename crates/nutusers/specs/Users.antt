@@ -1,8 +1,10 @@
 -- The users of a file, and what they may do (upsd.users(5)).
 use Rattle.std.specs.Prelude.{ℕ, Bool, false, ◌&&◌, List, find, Option, None, Some}
-use Rattle.std.specs.List.{list_any, IsDistinct}
+use Rattle.std.specs.List.{list_any}
+use Rattle.std.specs.List.Sorted.{IsStrictlySortedBy}
 use Rattle.std.specs.Option.{option_map_or}
 use Rattle.std.specs.Str.{bytes_eq}
+use Rattle.nutwords.specs.NameOrder.{byte_order}
 use Rattle.nutusers.specs.Rights.{gives}
 use Rattle.nutusers.specs.declared.rights.Right.{Right}
 use Rattle.nutusers.specs.declared.rights.Grant.{Grant}
@@ -13,9 +15,9 @@ pub record User : Type 0 where
   pub password : Option (List ℕ)
   pub grants : List Grant
 
--- No two users have one name, so that they are a finite map by name.
-abbrev pub HaveOneNameEach : List User → Type 0
-HaveOneNameEach users = IsDistinct (λ a b. bytes_eq a.name b.name) users
+-- The names rise, so no name comes twice.
+abbrev pub AreByName : List User → Type 0
+AreByName users = IsStrictlySortedBy (λ a b. byte_order a.name b.name) users
 
 -- The user of this name.
 abbrev pub user_named : List ℕ → List User → Option User

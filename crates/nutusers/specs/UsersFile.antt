@@ -1,15 +1,16 @@
 -- The file of users (upsd.users(5)).
 use Rattle.std.specs.Prelude.{◌≡◌, ℕ, Bool, ◌||◌, not, List, map, reverse, codes, find, is_some}
+use Rattle.std.specs.Prelude.{IsPermutation}
 use Rattle.std.specs.Prelude.{Option, None, Some, if◌then◌else◌}
 use Rattle.std.specs.List.{filter_map}
 use Rattle.std.specs.Str.{bytes_eq}
 use Rattle.nutusers.specs.ConfigLine.{ConfigLine, silent, malformed, section, setting, upsmon}
 use Rattle.nutusers.specs.ConfigLine.{is_section, read_config_line}
-use Rattle.nutusers.specs.File.{Format, bad_value_unless, once_fault}
+use Rattle.nutusers.specs.File.{Format, AreAccepted, bad_value_unless, once_fault}
 use Rattle.nutusers.specs.Rights.{grant_of, role_grant, action_grant, command_grant}
 use Rattle.nutusers.specs.Sections.{sections, value_in, last_of, in_section}
 use Rattle.nutusers.specs.Credentials.{is_user_name, is_password}
-use Rattle.nutusers.specs.Users.{user_named, may}
+use Rattle.nutusers.specs.Users.{AreByName, user_named, may}
 pub use Rattle.nutusers.specs.Users.{User}
 use Rattle.nutusers.specs.declared.fault.Cause.{Cause}
 use Rattle.nutusers.specs.declared.fault.Cause.TheVariants as causes
@@ -33,13 +34,6 @@ users_of lines = reverse (map user_of (sections (map read_config_line lines)))
 abbrev pub section_of : List ℕ → List (List ℕ) → Option (List ℕ × List ConfigLine)
 section_of name lines =
     find (λ s. bytes_eq s.0 name) (reverse (sections (map read_config_line lines)))
-
--- Where two files have the same section of a user, this user may do the same.
-abbrev pub RightsComeOfTheOwnSection : Type 0
-RightsComeOfTheOwnSection =
-    (lines other : List (List ℕ)) (name password : List ℕ) (right : Right)
-    → section_of name lines ≡ section_of name other
-    → may (users_of lines) name password right ≡ may (users_of other) name password right
 
 -- Why a section line is refused after lines that mean these users.
 abbrev pub section_fault : List User → List ℕ → Option Cause
@@ -74,3 +68,18 @@ adds_user_or_grant line = is_section line || is_some (grant_of line)
 
 abbrev pub adds_to_users : List ℕ → Bool
 adds_to_users line = adds_user_or_grant (read_config_line line)
+
+-- The file means these users: each of its lines is accepted, and they are exactly its users, by
+-- name.
+pub record AreUsers (lines : List (List ℕ)) (users : List User) : Type 0 where
+  pub accepted : AreAccepted users_format (reverse lines)
+  pub same : IsPermutation (users_of (reverse lines)) users
+  pub by_name : AreByName users
+
+-- Where two files have the same section of a user, this user may do the same.
+abbrev pub RightsComeOfTheOwnSection : Type 0
+RightsComeOfTheOwnSection =
+    (lines other : List (List ℕ)) (users others : List User) (name password : List ℕ)
+    (right : Right) → AreUsers lines users → AreUsers other others
+    → section_of name (reverse lines) ≡ section_of name (reverse other)
+    → may users name password right ≡ may others name password right

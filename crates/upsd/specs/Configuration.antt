@@ -6,7 +6,7 @@ use Rattle.nutwords.specs.Text.{lines_of}
 use Rattle.nutusers.specs.File.{Format, Means}
 use Rattle.nutusers.specs.UpsFile.{ups_format, adds_ups, IsUpsList}
 use Rattle.nutusers.specs.UpsList.{Ups, new_ups}
-use Rattle.nutusers.specs.UsersFile.{users_format, adds_to_users, users_of}
+use Rattle.nutusers.specs.UsersFile.{users_format, adds_to_users, AreUsers}
 use Rattle.nutusers.specs.Users.{User}
 use Rattle.nutusers.specs.DescriptionFile.{descriptions_format, adds_text, descriptions_of}
 use Rattle.nutusers.specs.Descriptions.{Descriptions, no_descriptions}
@@ -34,7 +34,7 @@ abbrev pub IsListOf : Readings → Option (Bor (List ℕ)) → List Ups → Type
 IsListOf gives path list = IsMeantBy gives IsUpsList su_alone path list
 
 abbrev pub AreUsersOf : Readings → Option (Bor (List ℕ)) → List User → Type 0
-AreUsersOf gives path users = IsMeantBy gives (Means users_format users_of) [] path users
+AreUsersOf gives path users = IsMeantBy gives AreUsers [] path users
 
 abbrev pub AreDescriptionsOf : Readings → Option (Bor (List ℕ)) → Descriptions → Type 0
 AreDescriptionsOf gives path descriptions =
