@@ -92,8 +92,8 @@ impl<'a> Network for Tcp<'a> {
 }
 
 /// Connects to the server: its name is looked up by the system, and each of its addresses is tried
-/// in turn, and noted in `tried`. No address is waited for longer than `WAIT_SECONDS`. It sends each
-/// line at once.
+/// in turn, and noted in `tried`. No address is waited for longer than `WAIT_SECONDS`. Each line is
+/// sent at once.
 pub fn connect(
     rt: &HostRuntime,
     target: &Target,
