@@ -27,7 +27,8 @@ READ, WRITE, EARLY, BAD = "read failed", "write failed", "reply ended early", "b
 ARGUMENT = "bad argument"
 # Why, as the second line of a fault says it. Names are looked up as this address, and connections are led away from it.
 SERVER = "127.0.0.1:3493"
-SENT_AWAY, CLOSED = f"{SERVER}: sent away: the server is full", f"{SERVER}: the server closed the connection"
+UNHEARD = "closed before any answer: the server is full, or not running behind a proxy"
+SENT_AWAY, CLOSED = f"{SERVER}: {UNHEARD}", f"{SERVER}: the server closed the connection"
 NO_REPLY, NO_ANSWER = f"{SERVER}: no reply of a UPS server came", f"{SERVER}: no answer in 5 seconds"
 RESET, PIPE = f"{SERVER}: Connection reset by peer", f"{SERVER}: Broken pipe"
 LOOK = "the order may have been given: look before you try again"
@@ -245,8 +246,10 @@ USER = ("-u", "u", "-p", "p", "su")
 # Words, by what the wrong one has to be.
 UNLAWFUL = {
     "UPS has to be ups[@host[:port]], with a host of letters, digits, . and -":
-        [("upsc", ups) for ups in ("", "su@", "bad name", "su@ho_st", "su@host:65536")] + [("upscmd", "-l", "su@a b"), ("upsrw", "su@host:0")],
-    "HOST has to be host[:port], with a host of letters, digits, . and -": [("upsc", "-l", "ho_st"), ("upsc", "-L", "host:x")],
+        [("upsc", ups) for ups in ("", "su@", "bad name", "su@ho_st", "su@ho_st:1", "bad name@host:0")] + [("upscmd", "-l", "su@a b")],
+    "HOST has to be host[:port], with a host of letters, digits, . and -": [("upsc", "-l", "ho_st"), ("upsc", "-L", "ho_st:x")],
+    "the port has to be 1 to 65535, without leading zeros":
+        [("upsc", "su@host:65536"), ("upsc", "su@host:"), ("upsrw", "su@host:0"), ("upscmd", "-l", "su@host:03493"), ("upsc", "-L", "host:x")],
     "an IPv6 address needs a host name, as /etc/hosts gives one":
         [("upsc", "su@::1"), ("upsc", "su@[::1]:3493"), ("upscmd", "-l", "su@fe80::1%eth0"), ("upsc", "-l", "[::1]"), ("upsc", "-L", "2001:db8::7")],
     "VAR has to be 1 to 64 letters, digits, . - _": [("upsc", "su", "a/b")],
@@ -430,7 +433,7 @@ def explained():
     for words in LIST, SET, ("upscmd", "-l", "su"):
         yield words, None, "cannot connect", f"{words_server(words)}: Connection refused"
         yield words, b"ERR ACCESS-DENIED\n", "server answered ERR ACCESS-DENIED", DENIED
-        yield words, b"", EARLY, f"{words_server(words)}: sent away: the server is full"
+        yield words, b"", EARLY, f"{words_server(words)}: {UNHEARD}"
         yield words, b"\n", BAD, f"{words_server(words)}: no reply of a UPS server came"
         yield (words[0], *USER[:-1], "a b", "c") if words[0] == "upscmd" else (*words[:-1], "a b"), None, ARGUMENT, next(iter(UNLAWFUL))
     yield ("upsc", b"su\xff"), None, ARGUMENT, "a word is not UTF-8"

@@ -15,6 +15,7 @@ pub mod OverRuns
 pub mod OneLine
 pub mod Stable
 pub mod Aligned
+pub mod Ordering
 pub mod OrderRows
 pub mod Tracked
 pub mod OrderJobs

@@ -2,7 +2,7 @@
 use Rattle.std.proofs.Common.{◌≡◌, ◌∙◌, inl, inr, ℕ, Bool, true, false, cond, eqb}
 use Rattle.std.proofs.Common.{List, [], ◌∷◌, ◌++◌}
 use Rattle.std.proofs.Common.{append_assoc, append-nil, Option, Some, None, Ok, refl, sym, ap, subst}
-use Rattle.std.specs.Prelude.{◌||◌, ◌==◌, All, nat_lt, option_map, option_and_then, length}
+use Rattle.std.specs.Prelude.{◌||◌, ◌&&◌, not, ◌==◌, All, nat_lt, option_map, option_and_then, length}
 use denote.Ref.{Bor}
 use Rattle.std.specs.List.{flat_map}
 use Rattle.std.proofs.lemmas.Bool.{eq-eqb, eqb-true}
@@ -29,7 +29,7 @@ use Rattle.nutcore.specs.declared.event.Event.TheVariants.{Feed, Took}
 use Rattle.nutcore.specs.declared.event.Outcome.{Outcome}
 use Rattle.nutcore.specs.ByRight.{IsAmong, GivesUsername, GivesPassword, CredentialsAreGivenByLines}
 use Rattle.nutcore.specs.DriverOrders.{ServerLine, order as an_order, given_by_line, given_by_change}
-use Rattle.nutcore.specs.Headline.{IsInPump, IsInEvent, IsTimely, EachAnswerIsTimely, IsLawful}
+use Rattle.nutcore.specs.Headline.{IsBeginning, IsInPump, IsInEvent, IsTimely, EachAnswerIsTimely, IsLawful}
 use Rattle.nutcore.specs.Headline.{WhatWasSentAndIsOwedIsTheAnswers, WhatWasAskedIsExecutedOrHeld}
 use Rattle.nutcore.specs.History.{Execution, of_line, of_notice, client_of, texts_of, lines_of, of_client}
 use Rattle.nutcore.specs.History.{executions, answers, executed, taken, asked, is_closed, is_over, held, owed}
@@ -40,12 +40,14 @@ use Rattle.nutcore.specs.Server.{ServerState, session}
 use Rattle.nutcore.specs.Session.{SessionState}
 use Rattle.nutcore.specs.Endings.{WhoIsOverIsAskedNoMore}
 use Rattle.nutcore.specs.Sound.{IsSound, ANewServerIsSound, EachEventKeepsTheServerSound, ASoundServerIsLawful}
+use Rattle.nutrequest.specs.Orders.{has_order_in}
 use Rattle.nutrequest.specs.Reply.{Reply, Whole, Refused, Bad, Unfinished, reply as client_reply}
 use Rattle.nutrequest.specs.Request.{request_line}
 use Rattle.nutrequest.specs.declared.request.Request.{Request}
 use Rattle.nutclient.specs.Job.{JobParts}
 use Rattle.nutclient.specs.Printed.{Prints, printed, printed_of}
 use Rattle.nutclient.specs.Requests.{lines_behind, sent_lines, reply_behind, last_reply_after}
+use Rattle.nutclient.specs.Why.{is_refusal}
 use Rattle.nutclient.specs.declared.form.Form.TheVariants as forms
 use Rattle.endtoend.specs.OneOrder.{IsClientOf, IsGivenOnce, IsOneOrder, AnOrderIsGivenOnceOrNotAtAll}
 use Rattle.endtoend.specs.OneOrder.{given_by_lines, orders_of}
@@ -55,6 +57,7 @@ use Rattle.endtoend.proofs.Aligned.{AreServed, nothing, noticed, served, HasNoLf
 use Rattle.endtoend.proofs.Aligned.{IsExecuted, IsQuiet, behind_line, executed_first}
 use Rattle.endtoend.proofs.Aligned.{executed_or_not, IsSplit, split_of_client, among_own}
 use Rattle.endtoend.proofs.FromDriver.{all_at}
+use Rattle.endtoend.proofs.Ordering.{order_there}
 use Rattle.endtoend.proofs.OrderJobs.{IsOrderJob, set_job, command_job}
 use Rattle.endtoend.proofs.OrderRows.{IsLogin, IsAnOrder, IsOrderRow, order_given}
 use Rattle.endtoend.proofs.Refused.{refused_read, granted_read}
@@ -214,6 +217,10 @@ given_once lines old events outcomes u bytes before after x is told =
     ap (λ (ts : List ServerLine). front ++ (ts ++ behind)) tells)
     ∙ flat_map-append order_of front (an_order bytes ∷ behind)
 
+-- what was given is something
+nothing_given : (place : ℕ) (bytes : List ℕ) → cond (eqb place place) (an_order bytes ∷ []) [] ≡ [] → ⊥
+nothing_given place bytes e = cc (sym (ap (λ b. cond b (an_order bytes ∷ []) []) (eq-eqb place place refl)) ∙ e)
+
 module _ (opening : ANewServerIsSound) (event : EachEventKeepsTheServerSound) (lawful : ASoundServerIsLawful)
     (over : WhoIsOverIsAskedNoMore) (sent : WhatWasSentAndIsOwedIsTheAnswers)
     (taken_up : WhatWasAskedIsExecutedOrHeld) (timely : EachAnswerIsTimely) (by_lines : CredentialsAreGivenByLines)
@@ -258,26 +265,27 @@ module _ (opening : ANewServerIsSound) (event : EachEventKeepsTheServerSound) (l
       (All-weaker (IsTimely old events outcomes) HasNoLf (λ x t. in_event t.server t.event x t.executed)
       (executions old events outcomes) (timely old h.new events outcomes h.run))
 
-  lines_begin : (rest : List ℕ) × (lines_of own ++ rest ≡ sent_lines job.1 came)
+  asked_begins : (rest : List ℕ) × (lines_of own ++ rest ≡ asked c old events outcomes)
   unfolding own
-  lines_begin = by (is_over c h.new) refl
+  asked_begins = by (is_over c h.new) refl
     where
       of_asked : (rest : List ℕ) → executed c old events outcomes ++ rest ≡ held c old ++
           asked c old events outcomes
-          → (rest : List ℕ) × (executed c old events outcomes ++ rest ≡ sent_lines job.1 came)
-      of_asked rest e = (
-        rest ++ h.sent.0,
-        sym (append_assoc (executed c old events outcomes) rest h.sent.0)
-            ∙ ap (λ (t : List ℕ). t ++ h.sent.0)
-            (e ∙ ap (λ o. held_of o ++ asked c old events outcomes) none_there)
-            ∙ h.sent.1,
-      )
+          → (rest : List ℕ) × (executed c old events outcomes ++ rest ≡ asked c old events outcomes)
+      of_asked rest e = (rest, e ∙ ap (λ o. held_of o ++ asked c old events outcomes) none_there)
 
       by : (b : Bool) → is_over c h.new ≡ b
-          → (rest : List ℕ) × (executed c old events outcomes ++ rest ≡ sent_lines job.1 came)
+          → (rest : List ℕ) × (executed c old events outcomes ++ rest ≡ asked c old events outcomes)
       by true e = let k = (taken_up old h.new events outcomes is_lawful h.run c).once_over e in of_asked k.0 k.1
       by false e = of_asked (held c h.new)
           (sym ((taken_up old h.new events outcomes is_lawful h.run c).while_going e))
+
+  lines_begin : (rest : List ℕ) × (lines_of own ++ rest ≡ sent_lines job.1 came)
+  lines_begin = (
+    asked_begins.0 ++ h.sent.0,
+    sym (append_assoc (lines_of own) asked_begins.0 h.sent.0)
+        ∙ ap (λ (t : List ℕ). t ++ h.sent.0) asked_begins.1 ∙ h.sent.1,
+  )
 
   came_begins : (rest : List ℕ) × (came ++ rest ≡ texts_of own)
   unfolding own
@@ -384,7 +392,21 @@ module _ (opening : ANewServerIsSound) (event : EachEventKeepsTheServerSound) (l
     row : IsOrderRow e.server c e.line ups right bytes
     row = is.its_order.row e.server c e.line e.asks
 
-  one_order : IsOneOrder old events outcomes c track ups user password right bytes (printed job.1 job.2 came)
+  -- where the order was given, its line stands whole in whatever was sent
+  there : IsGivenOnce old events outcomes c ups user password right bytes → (sent : List ℕ)
+      → IsBeginning (asked c old events outcomes) sent → has_order_in job.1 sent ≡ true
+  unfolding own
+  there o sent k = elim (order_there is.front is.order is.its_order.orders all_quiet job.1 is.requests_are own
+      are_its) [
+        | inl none ↦ absurd (nothing_given (o.known.id.place) (bytes o.id)
+            (sym (o.only o.known.id) ∙ none o.known.id))
+        | inr line ↦ subst (λ t. has_order_in job.1 t ≡ true)
+            (sym (append_assoc (lines_of own) asked_begins.0 k.0)
+            ∙ ap (λ t. t ++ k.0) asked_begins.1 ∙ k.1) (line (asked_begins.0 ++ k.0))
+      ]
+
+  one_order : IsOneOrder old events outcomes c track ups user password right bytes job.1
+      (printed job.1 job.2 came)
   unfolding own given_by_order
   one_order = record {
     at_most_once = elim (executed_or_not is.front is.order all_quiet job.1 is.requests_are own are_its) [
@@ -418,6 +440,8 @@ module _ (opening : ANewServerIsSound) (event : EachEventKeepsTheServerSound) (l
         is.requests_are own are_its (notice_last event lawful over c old h.new events outcomes is_sound h.run) came
         lines_begin.0 came_begins.0 lines_begin.1 came_begins.1
         (ap (λ form. printed job.1 form came) (sym is.form_is) ∙ p);
+    warned = λ sent fault o k no.
+        ap (λ b. b && not (is_refusal fault)) (there o sent k) ∙ ap not no;
   }
 
 pub orders_given_once : ANewServerIsSound → EachEventKeepsTheServerSound → ASoundServerIsLawful →

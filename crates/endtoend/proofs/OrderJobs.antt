@@ -14,6 +14,7 @@ use Rattle.nutusers.specs.declared.rights.Right.{Right}
 use Rattle.nutusers.specs.declared.rights.Right.TheVariants as rights
 use Rattle.nutanswer.specs.Orders.{right_to, set_line, instcmd_line, ok_words}
 use Rattle.nutcore.specs.Server.{ServerState}
+use Rattle.nutrequest.specs.Orders.{is_order}
 use Rattle.nutrequest.specs.Reply.{Refused, reply as client_reply}
 use Rattle.nutrequest.specs.declared.request.Request.{Request}
 use Rattle.nutrequest.specs.declared.request.Request.TheVariants as requests
@@ -61,6 +62,7 @@ unrefused_tracked request wants (Some id) bytes more word e h =
 -- an order of this user, by this right
 pub record IsOrderOf (track : Bool) (ups : List ℕ) (right : Right) (bytes : Option ℕ → List ℕ)
     (order : Request) : Type 0 where
+  pub orders : is_order order ≡ true
   pub reads : IsReadAsAsked order
   pub one : HasOneLine order
   pub row : (s : ServerState) (c : ℕ) (line : List ℕ) → IsLineOf order line
@@ -86,6 +88,7 @@ set_order_of : (track : Bool) (ups name value : List ℕ) → is_ups_name ups �
 set_order_of false ups name value h k v =
     let reads = set_asked false ups name value h k v in
     record {
+      orders = refl;
       reads = reads;
       one = λ value rest. refl;
       row = λ s c line asks. set_row s c line ups name value (reads line asks);
@@ -97,6 +100,7 @@ set_order_of true ups name value h k v =
     let wants : WantsId (requests.TrackedSetVar ups name value) =
     record { expected = λ words. refl; whole = λ value rest. refl } in
     record {
+      orders = refl;
       reads = reads;
       one = λ value rest. refl;
       row = λ s c line asks. set_row s c line ups name value (reads line asks);
@@ -111,6 +115,7 @@ command_order_of : (track : Bool) (ups name : List ℕ) (value : Option (List �
 command_order_of false ups name value h k v =
     let reads = command_asked false ups name value h k v in
     record {
+      orders = refl;
       reads = reads;
       one = λ value rest. refl;
       row = λ s c line asks. command_row s c line ups name value (reads line asks);
@@ -122,6 +127,7 @@ command_order_of true ups name value h k v =
     let wants : WantsId (requests.TrackedInstcmd ups name value) =
     record { expected = λ words. refl; whole = λ value rest. refl } in
     record {
+      orders = refl;
       reads = reads;
       one = λ value rest. refl;
       row = λ s c line asks. command_row s c line ups name value (reads line asks);

@@ -1,5 +1,5 @@
 -- One order, from the words of `upsrw` or `upscmd` to the lines that a driver is given.
-use Rattle.std.specs.Prelude.{◌≡◌, ◌==◌, ◌⊎◌, ℕ, Bool, true, List, [], ◌∷◌, ◌++◌, Option, Some}
+use Rattle.std.specs.Prelude.{◌≡◌, ◌==◌, ◌⊎◌, ℕ, Bool, true, false, List, [], ◌∷◌, ◌++◌, Option, Some}
 use Rattle.std.specs.Prelude.{None, codes, is_some, option_map, if◌then◌else◌}
 use Rattle.std.specs.List.{flat_map}
 use denote.Ref.{Bor}
@@ -21,12 +21,14 @@ use Rattle.nutcore.specs.OrdersByRight.{order_of, orders_given}
 use Rattle.nutcore.specs.Reply.{seen, asker}
 use Rattle.nutcore.specs.Run.{Run}
 use Rattle.nutcore.specs.Server.{ServerState}
+use Rattle.nutrequest.specs.declared.faults.ClientFault.{ClientFault}
 use Rattle.nutrequest.specs.declared.faults.ClientFault.TheVariants.{ErrWord as ServerRefused}
 use Rattle.nutrequest.specs.declared.request.Request.{Request}
 use Rattle.nutclient.specs.Job.{JobParts, UpsPlace, job_of, setting_of}
 use Rattle.nutclient.specs.Printed.{Printed, Prints, Faults, printed}
 use Rattle.nutclient.specs.Requests.{sent_lines}
 use Rattle.nutclient.specs.Target.{ups_place_of}
+use Rattle.nutclient.specs.Why.{is_refusal, may_be_given}
 use Rattle.nutclient.specs.declared.given.Given.TheVariants.{Set, Command}
 use Rattle.nutclient.specs.declared.given.Sender.{Sender}
 
@@ -82,14 +84,19 @@ module _ (old : ServerState) (events : List Event) (outcomes : List Outcome) (c 
 
   -- Whatever came, the order was given once, or no line of the client gave a driver anything. Where
   -- a text is printed, the order was given, with an id exactly where one was asked for, and the
-  -- text is OK or the id. Where an error word is reported, nothing was given.
+  -- text is OK or the id. Where an error word is reported, nothing was given. Whatever was sent that
+  -- begins with what the server read, a client that was given no such word warns of a given order.
   pub record IsOneOrder (tracked : Bool) (ups user password : List ℕ) (right : Right)
-      (bytes : Option ℕ → List ℕ) (shown : Printed) : Type 0 where
+      (bytes : Option ℕ → List ℕ) (requests : List Request) (shown : Printed) : Type 0 where
     pub at_most_once : IsGivenOnce ups user password right bytes ⊎ ((u : UpsId) → gave u ≡ [])
     pub printed : (text : List ℕ) → shown ≡ Prints text
         → (o : IsGivenOnce ups user password right bytes) × (is_some o.id ≡ tracked)
         × (text ≡ granted_text o.id)
     pub refused : (word : List ℕ) → shown ≡ Faults (ServerRefused word) → (u : UpsId) → gave u ≡ []
+    pub warned : (sent : List ℕ) (fault : ClientFault)
+        → IsGivenOnce ups user password right bytes
+        → IsBeginning (asked c old events outcomes) sent → is_refusal fault ≡ false
+        → may_be_given requests sent fault ≡ true
 
 -- `upsrw [--track] -s NAME=VALUE -u USER -p PASSWORD UPS` and
 -- `upscmd [--track] -u USER -p PASSWORD UPS NAME [VALUE]`, with lawful words.
@@ -100,12 +107,12 @@ pub record AnOrderIsGivenOnceOrNotAtAll : Type 0 where
       → ups_place_of ups.now ≡ Some place → setting_of setting.now ≡ Some (name, value)
       → IsClientOf old events outcomes c job.1 came
       → IsOneOrder old events outcomes c by.track place.0 by.user.now by.password.now rights.Set
-      (set_line name value) (printed job.1 job.2 came)
+      (set_line name value) job.1 (printed job.1 job.2 came)
   pub command : (old : ServerState) (events : List Event) (outcomes : List Outcome) (c : ℕ)
       (ups name : Bor (List ℕ)) (value : Option (Bor (List ℕ))) (by : Sender) (job : JobParts)
       (place : UpsPlace) (came : List ℕ) → job_of (Command ups name value by) ≡ Some job
       → ups_place_of ups.now ≡ Some place
       → IsClientOf old events outcomes c job.1 came
       → IsOneOrder old events outcomes c by.track place.0 by.user.now by.password.now
-      (right_to name.now) (instcmd_line name.now (option_map (λ v. v.now) value))
+      (right_to name.now) (instcmd_line name.now (option_map (λ v. v.now) value)) job.1
       (printed job.1 job.2 came)

@@ -144,7 +144,8 @@ pub fn upsc_prints_what_its_driver_reported()
 }
 
 /// Wherever its connection ends, `upsrw -s` or `upscmd` gives its order at most once: once, by a
-/// user with the right, if it prints `OK` or an id; not at all if it ends with an error word.
+/// user with the right, if it prints `OK` or an id; not at all if it ends with an error word. If it
+/// ends otherwise after the order was given, it warns of that.
 pub fn an_order_is_given_once_or_not_at_all()
     ensures { AnOrderIsGivenOnceOrNotAtAll }
 {

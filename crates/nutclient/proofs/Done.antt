@@ -3,6 +3,7 @@ use Rattle.std.proofs.Common.{◌≡◌, Bool, ℕ, ◌≤◌, List, [], ◌∷�
 use Rattle.std.proofs.Common.{Option, Result, Ok, Err, refl, sym, ap, subst, ◌∙◌, arith}
 use Rattle.std.proofs.Common.{append-nil}
 use Rattle.std.specs.List.{flat_map}
+use Rattle.std.specs.Io.KnownBytes.{Appends}
 use Rattle.nutio.specs.Ends.{Written}
 use Rattle.nutrequest.specs.Fault.{status_of}
 use Rattle.nutrequest.specs.Request.{request_line}
@@ -68,7 +69,7 @@ module _ {R W O E : Type 0} (rem : R → Option (List ℕ)) (rf : R → ℕ)
     (con : W → Option (List ℕ)) (wf : W → ℕ) (oc : O → Option (List ℕ)) (of : O → ℕ)
     (ec : E → Option (List ℕ)) (ef : E → ℕ) (is_explained : Bool) (program : Program) (requests : List Request)
     (form : Form) (is_terminal : Bool) (reader : R) (writer : W) (out : O) (err : E)
-    (new : List ℕ) (after : R) (sent : W) (then : O) (told : E) (status : ℕ) where
+    (new : List ℕ) (after : R) (sent : W) (then : O) (told : E) (status : ℕ) (bytes : List ℕ) where
   fault_status : (fault : ClientFault) →
       RunGives rem rf con wf oc of requests form is_terminal [] reader writer out (Err fault) new
       after sent then → status ≡ status_of fault → status ≡ 1
@@ -78,13 +79,13 @@ module _ {R W O E : Type 0} (rem : R → Option (List ℕ)) (rf : R → ℕ)
 
   status_most : (outcome : Result (Unit {0}) ClientFault) →
       RunGives rem rf con wf oc of requests form is_terminal [] reader writer out outcome new after
-      sent then → EndsBy ec ef is_explained program outcome err status told → status ≤ 1
+      sent then → EndsBy ec ef is_explained program requests bytes outcome err status told → status ≤ 1
   status_most (Ok done) g e = omega (arith, e.0)
   status_most (Err fault) g e = omega (arith, fault_status fault g e.1.0)
 
   is_done : (outcome : Result (Unit {0}) ClientFault) →
       RunGives rem rf con wf oc of requests form is_terminal [] reader writer out outcome new after
-      sent then → EndsBy ec ef is_explained program outcome err status told → status ≡ 0
+      sent then → EndsBy ec ef is_explained program requests bytes outcome err status told → status ≡ 0
       → IsDone rem rf con wf oc of requests form is_terminal reader writer out after sent then
   is_done (Err fault) g e zero = absurd (omega (arith, fault_status fault g e.1.0, zero))
   is_done (Ok done) g e zero =
@@ -107,13 +108,14 @@ module _ {R W O E : Type 0} (rem : R → Option (List ℕ)) (rf : R → ℕ)
   pub ends : (old : List ℕ) (first : R) (begun : W) (outcome : Result (Unit {0}) ClientFault) →
       old ≡ [] → first ≡ reader → begun ≡ writer
       → RunGives rem rf con wf oc of requests form is_terminal old first begun out outcome new
-      after sent then → EndsBy ec ef is_explained program outcome err status told
-      → ((o : Result (Unit {0}) ClientFault) ×
+      after sent then → Appends (con begun) (con sent) bytes
+      → EndsBy ec ef is_explained program requests bytes outcome err status told
+      → ((o : Result (Unit {0}) ClientFault) × (bytes : List ℕ) ×
       RunGives rem rf con wf oc of requests form is_terminal [] reader writer out o new after sent
-      then × EndsBy ec ef is_explained program o err status told)
+      then × Appends (con writer) (con sent) bytes × EndsBy ec ef is_explained program requests bytes o err status told)
       × (status ≡ 0 → IsDone rem rf con wf oc of requests form is_terminal reader writer out
       after sent then) × (status ≤ 1)
-  ends old first begun outcome o f b g e =
+  ends old first begun outcome o f b g a e =
       let run = from_new rem rf con wf oc of requests form is_terminal old first reader begun writer
       out outcome new after sent then o f b g in
-      ((outcome, run, e), (λ zero. is_done outcome run e zero), status_most outcome run e)
+      ((outcome, bytes, run, subst (λ w. Appends (con w) (con sent) bytes) b a, e), (λ zero. is_done outcome run e zero), status_most outcome run e)

@@ -15,6 +15,13 @@ use Rattle.nutclient.specs.Requests.{lines_behind, sent_lines, reply_behind, las
 use Rattle.nutio.proofs.PublicLaws.{nothing_is_received, received_joins, read_failed_joins}
 use Rattle.nutio.proofs.PublicLaws.{nothing_is_written, written_joins, write_failed_joins}
 
+-- what is left begins with the next request
+pub next_left : (all : List Request) (n : ℕ) (request : Request) → n < length all
+    → request ≡ get_or all n request → drop n all ≡ request ∷ drop (n + 1) all
+next_left all n request within is =
+    drop-cons all n request within ∙ ap (λ x. x ∷ drop (suc n) all) (sym is)
+    ∙ ap (λ k. request ∷ drop k all) (sym (add-one n))
+
 module _ {R W : Type 0} (rem : R → Option (List ℕ)) (rf : R → ℕ)
     (con : W → Option (List ℕ)) (wf : W → ℕ)
     (all : List Request) (old : List ℕ) (reader : R) (writer : W) where
@@ -46,16 +53,6 @@ module _ {R W : Type 0} (rem : R → Option (List ℕ)) (rf : R → ℕ)
       RequestsGive rem rf con wf all old reader writer (Ok items) kept after sent
   ends_well items kept after sent i =
       (i.came, i.text, i.read, i.written, (λ more. i.lines more ∙ append-nil i.text), i.replies)
-
-  -- what is left begins with the next request
-  pub comes_next : (items : List Item) (n : ℕ) (request : Request) (kept : List ℕ) (after : R) (sent : W)
-      → IsUnderWay items (drop n all) kept after sent → n < length all → request ≡ get_or all n request
-      → IsUnderWay items (request ∷ drop (n + 1) all) kept after sent
-  comes_next items n request kept after sent i within is =
-      let next : drop n all ≡ request ∷ drop (n + 1) all =
-      drop-cons all n request within ∙ ap (λ x. x ∷ drop (suc n) all) (sym is)
-      ∙ ap (λ k. request ∷ drop k all) (sym (add-one n)) in
-      subst (λ left. IsUnderWay items left kept after sent) next i
 
 module _ {R W : Type 0} (rem : R → Option (List ℕ)) (rf : R → ℕ)
     (con : W → Option (List ℕ)) (wf : W → ℕ)

@@ -2,6 +2,7 @@
 use Rattle.std.specs.Prelude.{◌≡◌, ℕ, Bool, true, false, List, [], ◌∷◌, ◌++◌, Option, Result, Ok}
 use Rattle.std.specs.Prelude.{Err, codes}
 use Rattle.std.specs.List.{flat_map}
+use Rattle.std.specs.Io.KnownBytes.{Appends}
 use Rattle.nutio.specs.Ends.{Received, Written}
 use Rattle.nutrequest.specs.Request.{request_line}
 use Rattle.nutrequest.specs.Reply.{Whole}
@@ -14,6 +15,9 @@ use Rattle.nutrequest.specs.declared.faults.ClientFault.{ClientFault}
 use Rattle.nutclient.specs.Requests.{last_reply}
 use Rattle.nutclient.specs.Printed.{RunGives, text_of}
 use Rattle.nutclient.specs.Shown.{shown}
+use Rattle.nutclient.specs.Why.{may_be_given, why_of}
+use Rattle.nutclient.specs.declared.cause.Cause.{Cause}
+use Rattle.nutclient.specs.declared.engine.Shows.{Shows}
 use Rattle.nutclient.specs.declared.form.Form.{Form}
 use Rattle.nutclient.specs.declared.program.Program.{Program}
 use Rattle.nutclient.specs.declared.program.Program.TheVariants.{Upsc, Upsrw, Upscmd}
@@ -37,35 +41,39 @@ abbrev pub explained : Bool → List ℕ → List ℕ
 explained true why = why
 explained false why = []
 
--- The status is the fault's, and the fault's line is sent, and the one that says why, whether or
--- not all of it is taken.
-abbrev pub Reports : {E : Type 0} → (E → Option (List ℕ)) → (E → ℕ) → Program → ClientFault
+-- The status is the fault's, and the fault's line is sent, and where that is explained the one that
+-- says why, whether or not all of it is taken.
+abbrev pub Reports : {E : Type 0} → (E → Option (List ℕ)) → (E → ℕ) → Bool → Program → ClientFault
     → List ℕ → E → ℕ → E → Type 0
-Reports contents failures program fault why err status after =
+Reports contents failures is_explained program fault why err status after =
     (status ≡ status_of fault) × (sent : Result (Unit {0}) Failed)
-    × SendGives contents failures (fault_line program fault ++ why_line program why) err sent after
+    × SendGives contents failures
+    (fault_line program fault ++ why_line program (explained is_explained why)) err sent after
 
--- By what came of it: where it is done, the status is 0, and nothing is reported; a fault is
--- reported, and why it came, where that is explained.
+-- By what came of it, these bytes of the requests being sent: where it is done, the status is 0, and
+-- nothing is reported; a fault is reported, and why it came.
 abbrev pub EndsBy : {E : Type 0} → (E → Option (List ℕ)) → (E → ℕ) → Bool → Program
-    → Result (Unit {0}) ClientFault → E → ℕ → E → Type 0
-EndsBy contents failures is_explained program (Ok done) err status after =
+    → List Request → List ℕ → Result (Unit {0}) ClientFault → E → ℕ → E → Type 0
+EndsBy contents failures is_explained program requests bytes (Ok done) err status after =
     (status ≡ 0) × (after ≡ err)
-EndsBy contents failures is_explained program (Err fault) err status after = (why : List ℕ)
-    × Reports contents failures program fault (explained is_explained why) err status after
+EndsBy contents failures is_explained program requests bytes (Err fault) err status after =
+    (cause : Cause)
+    × Reports contents failures is_explained program fault
+    (why_of (may_be_given requests bytes fault) fault cause) err status after
 
 -- What came of a job over these two ends: what was sent, what came and what was printed, and by
 -- that the status and what is reported.
 abbrev pub DoesJob : {R W O E : Type 0} → (R → Option (List ℕ)) → (R → ℕ) → (W → Option (List ℕ))
-    → (W → ℕ) → (O → Option (List ℕ)) → (O → ℕ) → (E → Option (List ℕ)) → (E → ℕ) → Bool → Program
-    → List Request → Form → Bool → R → W → O → E → ℕ → List ℕ → R → W → O → E → Type 0
+    → (W → ℕ) → (O → Option (List ℕ)) → (O → ℕ) → (E → Option (List ℕ)) → (E → ℕ) → Shows → Program
+    → List Request → Form → R → W → O → E → ℕ → List ℕ → R → W → O → E → Type 0
 DoesJob remaining failures contents write_failures printed print_failures reported report_failures
-    is_explained program requests form is_terminal reader writer out err status rest after sent then
-    told =
-    (outcome : Result (Unit {0}) ClientFault)
+    shows program requests form reader writer out err status rest after sent then told =
+    (outcome : Result (Unit {0}) ClientFault) × (bytes : List ℕ)
     × RunGives remaining failures contents write_failures printed print_failures
-    requests form is_terminal [] reader writer out outcome rest after sent then
-    × EndsBy reported report_failures is_explained program outcome err status told
+    requests form shows.is_terminal [] reader writer out outcome rest after sent then
+    × Appends (contents writer) (contents sent) bytes
+    × EndsBy reported report_failures shows.is_explained program requests bytes outcome err status
+    told
 
 -- A job that is done: the writer took the line of each request, once and in their order; what came
 -- is a whole reply to each; and the output took the text of the last one's items.

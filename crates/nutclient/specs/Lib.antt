@@ -3,7 +3,9 @@ pub mod Shown
 pub mod Printed
 pub mod Target
 pub mod Job
+pub mod Meaning
+pub mod Why
+pub mod Part
 pub mod Ending
-pub mod Clues
 pub mod Asked
 pub mod Start

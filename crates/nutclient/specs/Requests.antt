@@ -1,6 +1,9 @@
 -- Requests one after another, each sent after the one before is granted.
-use Rattle.std.specs.Prelude.{◌≡◌, ℕ, List, [], ◌∷◌, ◌++◌, Option, Result, Ok, Err}
+use Rattle.std.specs.Prelude.{◌≡◌, ℕ, Bool, List, [], ◌∷◌, ◌++◌, ◌||◌, Option, Result, Ok}
+use Rattle.std.specs.Prelude.{Err}
+use Rattle.std.specs.Io.KnownBytes.{Appends}
 use Rattle.nutio.specs.Ends.{Received, Written, WriteFailed, IsBeginning}
+use Rattle.nutrequest.specs.Orders.{has_order_in}
 use Rattle.nutrequest.specs.Request.{request_line}
 use Rattle.nutrequest.specs.Reply.{Reply, Refused, Whole, Bad, Unfinished, reply}
 use Rattle.nutrequest.specs.Session.{Fails}
@@ -66,3 +69,11 @@ RequestsGive remaining failures contents write_failures requests old reader writ
     (text : List ℕ) × Written contents write_failures writer text sent
     × Fails remaining failures (λ came r. (sent_lines requests (old ++ came) ≡ text)
     × (last_reply requests (old ++ came) ≡ r)) reader fault after
+
+-- What the writer took of these requests, and by that whether the line of an order stands whole in
+-- what it took, if not before.
+abbrev pub TakesOrders : {W : Type 0} → (W → Option (List ℕ)) → List Request → W → W → Bool → Bool
+    → Type 0
+TakesOrders contents requests writer sent before now = (bytes : List ℕ)
+    × Appends (contents writer) (contents sent) bytes
+    × (now ≡ (before || has_order_in requests bytes))

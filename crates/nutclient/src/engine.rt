@@ -1,52 +1,75 @@
 //! The engine of the programs.
-ghost use Rattle.std.specs.Prelude.{◌≡◌, ◌≢◌, ◌≤◌, ◌++◌, [], Err, OnErr, OnOk, true, false, Some, List, ℕ};
+ghost use Rattle.std.specs.Prelude.{◌≡◌, ◌≢◌, ◌≤◌, ◌++◌, ◌&&◌, [], Err, OnErr, OnOk, not, true, false, Some, List, ℕ};
 ghost use Rattle.nutio.specs.Ends.{NoneFailed};
 ghost use Rattle.nutrequest.specs.Session.{unread_of, reader_of, writer_of};
 ghost use Rattle.nutclient.specs.Requests.{RequestsGive};
 ghost use Rattle.nutclient.specs.Printed.{printed, RunGives, Answers};
 ghost use Rattle.nutclient.specs.Ending.{DoesJob, IsDone};
+ghost use Rattle.nutclient.specs.Requests.{TakesOrders};
+ghost use Rattle.nutclient.specs.Why.{is_refusal};
 
-use crate::clues::Clues;
+use crate::cause::{Cause, ServerName};
 use crate::ending::report;
+use crate::ends::Witness;
 use crate::printed::print;
+use crate::why::why_of;
 use crate::{Job, Program};
 use nutio::{Sink, Source};
 use nutrequest::{ClientFault, Session, ask};
 use std::alloc::Global;
 
-/// Does the job over a new session with these two ends: what a client program does once it is
-/// connected. It prints on `out`, which may be a terminal, and reports a fault on `err`, with what
-/// the ends noted of it. Gives the exit status, and the session that it leaves.
-pub fn do_job<R: Source, W: Sink, O: Sink, E: Sink>(
+/// Where a program prints, and whether it explains a fault.
+#[derive(Clone, Copy)]
+pub struct Shows {
+    /// The output is a terminal.
+    pub is_terminal: bool,
+    /// A second line explains a fault.
+    pub is_explained: bool,
+}
+
+/// Does the job over a new session with these two ends of a connection to the server: what a client
+/// program does once it is connected. It prints on `out`, and reports a fault on `err`. Gives the
+/// exit status, and the session that it leaves.
+pub fn do_job<R: Source + Witness, W: Sink + Witness, O: Sink + Witness, E: Sink>(
     alloc: Global,
     reader: R,
     writer: W,
     out: &mut O,
     err: &mut E,
-    is_terminal: bool,
+    shows: Shows,
     program: Program,
+    server: ServerName,
     job: &Job,
-    clues: &Clues,
 ) -> (u8, Session<R, W>)
     // What was sent, what came and what was printed, and by that the status and what is reported.
     ensures gives { DoesJob R.remaining R.failures W.contents W.failures O.contents O.failures
-        E.contents E.failures clues.now.is_explained program
-        job.now.requests.items job.now.form is_terminal reader writer out.old err.old result.0
+        E.contents E.failures shows program
+        job.now.requests.items job.now.form reader writer out.old err.old result.0
         (unread_of result.1) (reader_of result.1) (writer_of result.1) out.new err.new }
     // Status 0 says that each request was sent once, and that what is printed is the last reply.
     ensures done { result.0 ≡ 0 → IsDone R.remaining R.failures W.contents W.failures O.contents
-        O.failures job.now.requests.items job.now.form is_terminal reader writer out.old
+        O.failures job.now.requests.items job.now.form shows.is_terminal reader writer out.old
         (reader_of result.1) (writer_of result.1) out.new }
     ensures most { result.0 ≤ 1 }
 {
     let mut session = Session::new(alloc, reader, writer);
-    match run(&mut session, out, is_terminal, job) {
+    match run(&mut session, out, shows.is_terminal, job) {
         Ok(()) => (0, session),
-        Err(fault) => (
-            report(err, program, &fault, &clues.why(job, &fault)),
-            session,
-        ),
+        Err(fault) => {
+            let cause = Cause::of_ends(server, session.reader(), session.writer(), out);
+            let why = why_of(may_be_given(session.has_ordered, &fault), &fault, &cause);
+            let status = report(err, program, shows.is_explained, &fault, why.as_str());
+            (status, session)
+        }
     }
+}
+
+/// Whether an order may have been given, though it isn't printed: its line was sent, and the server
+/// didn't refuse it.
+fn may_be_given(has_ordered: bool, fault: &ClientFault) -> bool
+    ensures { result ≡ (has_ordered && not (is_refusal fault.now)) }
+{
+    has_ordered && !matches!(fault, ClientFault::ErrWord(_))
 }
 
 /// Does the job: sends its requests, each once the one before is granted, and prints the items of
@@ -78,6 +101,10 @@ pub fn run<R: Source, W: Sink, O: Sink>(
         → Answers O.contents is_terminal
         (printed job.now.requests.items job.now.form (unread_of session.old ++ bytes))
         out.old result out.new }
+    // Whether an order was sent is what stands in the sent bytes.
+    ensures ordered { session.old.is_over ≡ false → TakesOrders W.contents
+        job.now.requests.items (writer_of session.old) (writer_of session.new)
+        session.old.has_ordered session.new.has_ordered }
     ensures fault { OnErr result (session.new.is_over ≡ true) }
     // A job that is done leaves the session to the next one, with what was read past its replies.
     ensures goes_on { OnOk result (session.new.is_over ≡ false) }

@@ -35,27 +35,27 @@ impl Job {
     {
         match given {
             Given::Variables(ups) => {
-                let (ups, target) = place(ups)?;
+                let (ups, target) = ups_and_target(ups)?;
                 Ok(single(target, Request::List(Query::Var(ups)), Form::Colon))
             }
             Given::Variable { ups, name } => variable_job(ups, name),
             Given::Upses(server) => upses_job(*server, Form::Name),
             Given::Descriptions(server) => upses_job(*server, Form::Colon),
             Given::Clients(ups) => {
-                let (ups, target) = place(ups)?;
+                let (ups, target) = ups_and_target(ups)?;
                 Ok(single(target, Request::List(Query::Client(ups)), Form::Name))
             }
             Given::Attached(ups) => {
-                let (ups, target) = place(ups)?;
+                let (ups, target) = ups_and_target(ups)?;
                 Ok(single(target, Request::GetNumAttach(ups), Form::Value))
             }
             Given::Tracked { ups, id } => tracked_job(ups, id),
             Given::Writable(ups) => {
-                let (ups, target) = place(ups)?;
+                let (ups, target) = ups_and_target(ups)?;
                 Ok(single(target, Request::List(Query::Rw(ups)), Form::Equals))
             }
             Given::Commands(ups) => {
-                let (ups, target) = place(ups)?;
+                let (ups, target) = ups_and_target(ups)?;
                 Ok(single(target, Request::List(Query::Cmd(ups)), Form::Name))
             }
             Given::Set { ups, setting, by } => { ordered(by, set_order(by.track, ups, setting)) }
@@ -83,17 +83,26 @@ fn single(target: Target, request: Request, form: Form) -> Job
 }
 
 /// A UPS, and its server.
-fn place(text: &str) -> Result<UpsPlace, Part>
+fn ups_and_target(text: &str) -> Result<UpsPlace, Part>
     ensures { result_ok result ≡ ups_place_of text.now }
 {
     Target::read(text).ok_or(wrong_server(text, Part::Ups))
 }
 
-/// What is wrong in the name of a server, which is this part: an IPv6 address has two colons.
+/// What is wrong in the name of a server, which is this part: an IPv6 address has two colons, and
+/// behind a lawful name stands the port.
 fn wrong_server(text: &str, part: Part) -> Part {
-    match text.split_once(':') {
-        Some((_, more)) if more.contains(':') => Part::Ipv6,
-        _ => part,
+    let Some((name, port)) = text.split_once(':') else {
+        return part;
+    };
+    let is_lawful = match part {
+        Part::Host => Target::host(name).is_some(),
+        _ => Target::read(name).is_some(),
+    };
+    match is_lawful {
+        _ if port.contains(':') => Part::Ipv6,
+        true => Part::Port,
+        false => part,
     }
 }
 
@@ -109,7 +118,7 @@ fn variable_job(ups: &str, name: &str) -> Result<Job, Part>
     ensures { option_map parts_of (result_ok result)
         ≡ variable_of (ups_place_of ups.now) (lawful (read_name name.now)) }
 {
-    let (ups, target) = place(ups)?;
+    let (ups, target) = ups_and_target(ups)?;
     let name = name_of(name, Part::Variable)?;
     Ok(single(target, Request::GetVar(ups, name), Form::Value))
 }
@@ -119,7 +128,7 @@ fn tracked_job(ups: &str, id: &str) -> Result<Job, Part>
     ensures { option_map parts_of (result_ok result)
         ≡ tracked_of (ups_place_of ups.now) (read_id id.now) }
 {
-    let (_, target) = place(ups)?;
+    let (_, target) = ups_and_target(ups)?;
     let id = read_id(id.as_bytes()).ok_or(Part::Id)?;
     Ok(single(target, Request::GetTracking(id), Form::Value))
 }
@@ -182,7 +191,7 @@ fn set_order(track: bool, ups: &str, setting: &str) -> Result<Order, Part>
     ensures { result_ok result
         ≡ set_order track (ups_place_of ups.now) (setting_of setting.now) }
 {
-    let (ups, target) = place(ups)?;
+    let (ups, target) = ups_and_target(ups)?;
     let (name, value) = setting_parts(setting).ok_or(Part::Setting)?;
     Ok((target, set_request(track, ups, name, value)))
 }
@@ -213,7 +222,7 @@ fn command_order(track: bool, ups: &str, name: &str, value: Option<&str>) -> Res
         ≡ command_order track (ups_place_of ups.now) (lawful (read_name name.now))
         (value_of value.entry) }
 {
-    let (ups, target) = place(ups)?;
+    let (ups, target) = ups_and_target(ups)?;
     let name = name_of(name, Part::Command)?;
     let value = match value {
         Some(text) => Some(Value::read(text.as_bytes()).map_err(|_| Part::Value)?),

@@ -3,10 +3,11 @@
 #![tactic(auto)]
 
 mod asked;
+mod cause;
 mod client;
-mod clues;
 mod connection;
 mod ending;
+mod ends;
 mod engine;
 mod form;
 mod given;
@@ -21,11 +22,13 @@ mod program;
 mod shown;
 mod start;
 mod target;
+mod why;
 
+pub use cause::ServerName;
 pub use client::Client;
-pub use clues::Clues;
 pub use connection::{Network, connect};
-pub use engine::{do_job, run};
+pub use ends::Witness;
+pub use engine::{Shows, do_job, run};
 pub use form::Form;
 pub use given::{Given, Sender};
 pub use job::Job;

@@ -27,5 +27,8 @@ pub const WORD_FAULT: u8 = 2;
 /// order.
 pub const REQUEST_LIMIT: usize = 4;
 
-/// The most bytes of why a fault came: a host, and what the system says.
-pub const WHY_LIMIT: usize = 512;
+/// The most bytes of what the system says of an error.
+pub const SAID_LIMIT: usize = 256;
+
+/// The most bytes of why a fault came: a server, a text of at most 300 bytes, and the warning.
+pub const WHY_LIMIT: usize = 700;

@@ -1,4 +1,6 @@
 //! The words of refusals (RFC 9271: error responses), in plain words.
+ghost use Rattle.std.specs.Prelude.{◌≡◌, ◌≤◌, length, map};
+ghost use Rattle.nutclient.specs.Meaning.{meaning, meaning_in};
 
 /// The words that a server may refuse by, and what each means here.
 static MEANINGS: [(&str, &str); 21] = [
@@ -68,8 +70,21 @@ static MEANINGS: [(&str, &str); 21] = [
 ];
 
 /// What the word means.
-pub(crate) fn meaning(word: &[u8]) -> &'static str {
-    let mut rows = MEANINGS.iter();
-    let row = rows.find(|(known, _)| known.as_bytes() == word);
-    row.map_or("RFC 9271 has what this word means", |(_, meaning)| *meaning)
+pub(crate) fn meaning(word: &[u8]) -> &'static str
+    ensures value { result.now ≡ meaning word.now }
+    ensures short { length result.now ≤ 100 }
+{
+    meaning_in(&MEANINGS, word)
+}
+
+/// The meaning in the first row of the word.
+fn meaning_in(rows: &[(&'static str, &'static str)], word: &[u8]) -> &'static str
+    ensures { result.now ≡ meaning_in (map (λ row. (row.0.now, row.1.now)) rows.now) word.now }
+{
+    for (known, meaning) in rows {
+        if known.as_bytes() == word {
+            return meaning;
+        }
+    }
+    "RFC 9271 has what this word means"
 }

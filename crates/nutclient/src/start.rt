@@ -1,19 +1,20 @@
 //! What the `main` of each program does: it takes the words, the network and the two outputs from
 //! the system.
-ghost use Rattle.std.specs.Prelude.{◌≡◌, ◌≤◌, IfOk, map, string_bytes};
+ghost use Rattle.std.specs.Prelude.{◌≡◌, ◌≤◌, IfOk, MatchResult, length, map, string_bytes};
 ghost use Rattle.std.specs.Process.{exit_status};
 ghost use Rattle.clap.specs.Words.{HasMatchesOf};
 ghost use Rattle.nutrequest.specs.Fault.{status_of};
 ghost use Rattle.nutclient.specs.Ending.{name_of};
 ghost use Rattle.nutclient.specs.Start.{EndsAsAsked, EndsAsRefused};
+ghost use Rattle.nutclient.specs.declared.limits.TheConstants.{WHY_LIMIT};
 ghost use Rattle.nutargs.specs.Words.{program_with};
 
 use crate::asked::obey;
-use crate::clues::Clues;
-use crate::connection::{Output, Tcp};
+use crate::connection::Tcp;
+use crate::ends::End;
 use crate::limits::WORD_FAULT;
 use crate::password::put_password;
-use crate::{Client, Program, ending};
+use crate::{Client, Program, Shows, ending};
 use clap::{ArgMatches, Command, Error};
 use nutargs::{
     VERSION, Word, explains, hold_standard_streams, is_terminal, print_refusal, with_explain,
@@ -38,7 +39,9 @@ pub fn main_of<C: Client>(rt: &HostRuntime) -> ExitCode
 }
 
 /// Why the system gave no words.
-fn why_no_words(fault: &ClientFault) -> &'static str {
+fn why_no_words(fault: &ClientFault) -> &'static str
+    ensures { length result.now ≤ WHY_LIMIT }
+{
     match fault {
         ClientFault::BadTarget => "a word is not UTF-8",
         _ => "",
@@ -54,9 +57,18 @@ fn obey_words<C: Client>(rt: &HostRuntime, mut words: Vec<String>) -> u8
             return WORD_FAULT;
         }
     }
-    match matches_of::<C>(rt.alloc(), &words) {
-        Ok(found) => obey_system::<C>(rt, &found),
-        Err(error) => end(rt, C::PROGRAM, &error),
+    end_by::<C>(rt, &matches_of::<C>(rt.alloc(), &words))
+}
+
+/// Does what the parser found in the words, or prints what it says of them.
+fn end_by<C: Client>(rt: &HostRuntime, parsed: &Result<ArgMatches<'_>, Error>) -> u8
+    ensures status { MatchResult parsed.now (λ found. EndsAsAsked C.asks found result)
+        (λ error. EndsAsRefused error result) }
+    ensures most { result ≤ WORD_FAULT }
+{
+    match parsed {
+        Ok(found) => obey_system::<C>(rt, found),
+        Err(error) => end(rt, C::PROGRAM, error),
     }
 }
 
@@ -67,29 +79,27 @@ fn takes_password_file(words: &[Word]) -> bool {
 
 /// Does what was found in the words over the system's network and its standard outputs.
 fn obey_system<C: Client>(rt: &HostRuntime, found: &ArgMatches<'_>) -> u8
-    ensures { EndsAsAsked C.asks found.now result }
+    ensures status { EndsAsAsked C.asks found.now result }
+    ensures most { result ≤ WORD_FAULT }
 {
-    let clues = Clues::new(explains(rt, found));
-    let clues = &clues;
     let stderr = rt.stderr();
-    let mut out = CountedWriter::new(Output {
-        writer: io::writer(rt),
-        clues,
-    });
     obey::<C, _, _, _>(
         rt.alloc(),
         found,
-        &Tcp { rt, clues },
-        &mut out,
+        &mut Tcp::new(rt),
+        &mut End::new(io::writer(rt)),
         &mut CountedWriter::new(io::writer(&stderr)),
-        rt.stdout().is_terminal(),
-        clues,
+        Shows {
+            is_terminal: rt.stdout().is_terminal(),
+            is_explained: explains(rt, found),
+        },
     )
 }
 
 /// Prints what the parser of the words says, and gives the exit status.
 fn end(rt: &HostRuntime, program: Program, error: &Error) -> u8
-    ensures { EndsAsRefused error.now result }
+    ensures status { EndsAsRefused error.now result }
+    ensures most { result ≤ WORD_FAULT }
 {
     match print_refusal(rt, error) {
         Some(status) => status,
@@ -115,10 +125,10 @@ fn matches_of<'a, C: Client>(alloc: Global, words: &'a [String]) -> Result<ArgMa
 /// Reports a fault of the words on standard error, and on a terminal why it came. Gives the exit
 /// status.
 fn report(rt: &HostRuntime, program: Program, fault: &ClientFault, why: &str) -> u8
+    requires { length why.now ≤ WHY_LIMIT }
     ensures { result ≡ status_of fault.now }
 {
     let stderr = rt.stderr();
     let mut err = CountedWriter::new(io::writer(&stderr));
-    let why = Clues::new(is_terminal(rt)).why_of(why);
-    ending::report(&mut err, program, fault, &why)
+    ending::report(&mut err, program, is_terminal(rt), fault, why)
 }

@@ -82,6 +82,18 @@ impl Target {
         }
     }
 
+    /// The same server.
+    pub(crate) fn copied(&self) -> Target
+        ensures { result ≡ self.now }
+    {
+        Target {
+            host: Host {
+                text: self.host.text,
+            },
+            port: self.port,
+        }
+    }
+
     /// What is connected to: the host, to be looked up, and the port.
     pub fn address(&self) -> (&str, u16)
         ensures { (result.0.now ≡ self.now.host) × (result.1 ≡ self.now.port) }

@@ -3,3 +3,4 @@ pub mod Reading
 pub mod Replies
 pub mod Joining
 pub mod PublicLaws
+mod Sending

@@ -1,21 +1,9 @@
--- The numbers, the statuses and the texts of a client's faults.
+-- The statuses and the texts of a client's faults.
 use Rattle.std.specs.Prelude.{ℕ, List, ◌++◌, codes}
 use Rattle.std.specs.declared.io.ErrorKind.{ErrorKind}
 use Rattle.std.specs.declared.io.ErrorKind.TheVariants.{OutOfMemory}
 use Rattle.nutrequest.specs.declared.faults.ClientFault.{ClientFault}
 use Rattle.nutrequest.specs.declared.faults.ClientFault.TheVariants as faults
-
--- 1 cannot connect, 2 read failed, 3 write failed, 4 the reply ended early, 5 the server answered
--- ERR, 6 bad reply, 7 bad argument, 8 no memory.
-abbrev pub number_of : ClientFault → ℕ
-number_of faults.Connect = 1
-number_of faults.Read = 2
-number_of faults.Write = 3
-number_of faults.EarlyEnd = 4
-number_of (faults.ErrWord word) = 5
-number_of faults.BadReply = 6
-number_of faults.BadTarget = 7
-number_of faults.Memory = 8
 
 -- The exit status of a program that meets the fault.
 abbrev pub status_of : ClientFault → ℕ

@@ -32,23 +32,7 @@ pub enum ClientFault {
 }
 
 impl ClientFault {
-    ghost use Rattle.nutrequest.specs.Fault.{number_of, status_of, fault_text};
-
-    /// The fault's number, 1 to 8.
-    pub fn number(&self) -> u8
-        ensures { result ≡ number_of self.now }
-    {
-        match self {
-            ClientFault::Connect => 1,
-            ClientFault::Read => 2,
-            ClientFault::Write => 3,
-            ClientFault::EarlyEnd => 4,
-            ClientFault::ErrWord(_) => 5,
-            ClientFault::BadReply => 6,
-            ClientFault::BadTarget => 7,
-            ClientFault::Memory => 8,
-        }
-    }
+    ghost use Rattle.nutrequest.specs.Fault.{status_of, fault_text};
 
     /// The exit status of a program that meets it: 2 for a bad argument, else 1.
     pub fn status(&self) -> u8

@@ -1,4 +1,6 @@
 //! What a client asks for (RFC 9271: LIST, GET, SET, INSTCMD, USERNAME, PASSWORD).
+ghost use Rattle.std.specs.Prelude.{◌≡◌};
+
 use nutwords::{Name, UpsName, Value};
 
 /// A listing that is asked for.
@@ -43,4 +45,21 @@ pub enum Request {
     TrackedInstcmd(UpsName, Name, Option<Value>),
     /// How far the order of this id has come.
     GetTracking(u128),
+}
+
+impl Request {
+    ghost use Rattle.nutrequest.specs.Orders.{is_order};
+
+    /// That a variable be set, or a command be done.
+    pub fn is_order(&self) -> bool
+        ensures { result ≡ is_order self.now }
+    {
+        matches!(
+            self,
+            Request::SetVar(..)
+                | Request::Instcmd(..)
+                | Request::TrackedSetVar(..)
+                | Request::TrackedInstcmd(..)
+        )
+    }
 }

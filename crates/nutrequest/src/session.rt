@@ -4,12 +4,13 @@ ghost use Rattle.std.specs.Result.{result_map_both};
 ghost use Rattle.nutrequest.specs.Inbox.{unread};
 ghost use Rattle.nutrequest.specs.Session.{unread_of, reader_of, writer_of};
 ghost use Rattle.nutrequest.specs.Session.{ReplyGives, AskGives};
+ghost use Rattle.nutrequest.specs.Orders.{NotesOrder, SendLineGives};
 
 use crate::inbox::Inbox;
 use crate::line::request_line;
 use crate::read::{FirstLine, LaterLine, first_line, later_line};
 use crate::{ClientFault, ITEM_LIMIT, Item, Request};
-use nutio::{Sink, Source, send};
+use nutio::{Sink, Source};
 use nutwords::Bytes;
 use std::alloc::Global;
 
@@ -23,6 +24,8 @@ pub struct Session<R, W> {
     inbox: Inbox,
     /// Whether it met a fault: every further request is refused then.
     pub is_over: bool,
+    /// Whether the line of an order was sent whole.
+    pub has_ordered: bool,
 }
 
 impl<R: Source, W: Sink> Session<R, W> {
@@ -32,6 +35,7 @@ impl<R: Source, W: Sink> Session<R, W> {
         ensures writer { writer_of result ≡ writer }
         ensures unread { unread_of result ≡ [] }
         ensures over { result.is_over ≡ false }
+        ensures ordered { result.has_ordered ≡ false }
     {
         Session {
             alloc,
@@ -39,7 +43,22 @@ impl<R: Source, W: Sink> Session<R, W> {
             writer,
             inbox: Inbox::new(),
             is_over: false,
+            has_ordered: false,
         }
+    }
+
+    /// The end that it reads from.
+    pub fn reader(&self) -> &R
+        ensures { result.now ≡ reader_of self.now }
+    {
+        &self.reader
+    }
+
+    /// The end that it writes to.
+    pub fn writer(&self) -> &W
+        ensures { result.now ≡ writer_of self.now }
+    {
+        &self.writer
     }
 }
 
@@ -58,14 +77,19 @@ pub fn ask<R: Source, W: Sink>(
         (unread_of session.new) (reader_of session.new) (writer_of session.new) }
     ensures fault { OnErr result (session.new.is_over ≡ true) }
     ensures goes_on { OnOk result (session.new.is_over ≡ false) }
+    // Whether an order was sent.
+    ensures ordered { session.old.is_over ≡ false → NotesOrder W.contents request.now
+        (writer_of session.old) (writer_of session.new) session.old.has_ordered result
+        session.new.has_ordered }
 {
     if session.is_over {
         return Err(ClientFault::EarlyEnd);
     }
     session.is_over = true;
-    if send(&mut session.writer, &request_line(request)).is_err() {
+    if !send_line(&mut session.writer, &request_line(request)) {
         return Err(ClientFault::Write);
     }
+    session.has_ordered = session.has_ordered || request.is_order();
     let items = read_reply(
         session.alloc,
         &mut session.inbox,
@@ -74,6 +98,21 @@ pub fn ask<R: Source, W: Sink>(
     )?;
     session.is_over = false;
     Ok(items)
+}
+
+/// Sends a line, however few bytes a write takes. Whether all of it is sent: else a write failed
+/// before its end.
+fn send_line<W: Sink>(writer: &mut W, line: &[u8]) -> bool
+    ensures { SendLineGives W.contents W.failures line.now writer.old result writer.new }
+{
+    let mut sent = 0;
+    while sent < line.len() {
+        let Ok(n) = writer.write(&line[sent..]) else {
+            return false;
+        };
+        sent += n;
+    }
+    true
 }
 
 /// Reads the reply to a request.

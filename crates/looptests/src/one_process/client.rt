@@ -1,7 +1,7 @@
 //! upsc's end: while it waits for the server, the server has its turns.
 use super::served::{Served, TURN_LIMIT};
 use anyhow::Result;
-use nutclient::{Clues, Given, Job, connect, run};
+use nutclient::{Given, Job, connect, run};
 use nutio::{CountedReader, CountedWriter};
 use nutrequest::{ClientFault, Session};
 use std::io;
@@ -13,7 +13,7 @@ use std::net::TcpStream;
 pub fn print_variables(rt: &HostRuntime, served: &mut Served<'_>) -> Result<bool> {
     let ups = format!(in rt.alloc(); "su@127.0.0.1:{}", served.port()?)?;
     let job = Job::read(&Given::Variables(ups.as_str())).map_err(|_| ClientFault::BadTarget)?;
-    let stream = connect(rt, &job.target, &Clues::new(false))?;
+    let stream = connect(rt, &job.target, &mut None)?;
     stream.set_nonblocking(true)?;
     match print(rt, &stream, served, &job) {
         Ok(()) => Ok(true),

@@ -5,7 +5,7 @@ use Rattle.nutclient.proofs.ending.report.Goals as goal
 
 pub returns : goal.returns
 returns g c =
-    let why = ap (why_line c.args.program) c.as_str.ensures.value in
+    let why = ap (why_line c.args.program) c.explained.ensures.value in
     let both = ap₂ (λ front back. front ++ back) c.fault_line-lines.ensures.line why in
     let lines = c.deref.ensures.0 ∙ c.push_why.ensures ∙ both in
     let sent = subst

@@ -1,5 +1,6 @@
 use Rattle.std.proofs.Common.{◌≡◌, drop, false}
 use Rattle.nutrequest.specs.Session.{unread_of, reader_of, writer_of}
+use Rattle.nutclient.proofs.Ordering.{IsOrdering}
 use Rattle.nutclient.proofs.Underway.{IsUnderWay}
 use Rattle.nutclient.proofs.engine.run.Given as goal
 
@@ -11,4 +12,6 @@ invariant-loop-request g l = record {
       l.items.items (drop l.request-index l.request-items) (unread_of l.session)
       (reader_of l.session) (writer_of l.session);
   goes_on : l.session.is_over ≡ false;
+  ordering : IsOrdering g.W.Sink.contents l.request-items l.fn.session.has_ordered (writer_of l.fn.session)
+      (drop l.request-index l.request-items) l.session.has_ordered (writer_of l.session);
 }

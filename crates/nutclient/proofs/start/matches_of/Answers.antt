@@ -1,7 +1,7 @@
-use Rattle.std.proofs.Common.{◌≡◌, ◌∙◌, ap, ap₂, [], subst, map, string_bytes, true, IfOk}
+use Rattle.std.proofs.Common.{◌≡◌, ◌∙◌, ap, ap₂, subst, map, string_bytes, true, IfOk}
 use Rattle.clap.specs.Simple.{app_of_fields, on_top}
 use Rattle.clap.specs.Words.{App, HasMatchesOf, app_of}
-use Rattle.nutargs.specs.Words.{explained, program_of, program_with, with_words}
+use Rattle.nutargs.specs.Words.{explained, program_of, with_words}
 use Rattle.nutclient.specs.Ending.{name_of}
 use Rattle.nutclient.proofs.start.matches_of.Goals as goal
 
