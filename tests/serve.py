@@ -535,6 +535,57 @@ def each_line_has_its_priority_where_it_is_asked_for():
         assert comes(lambda: server.journal().splitlines()[:len(lines)] == lines), server.journal()
 
 
+def a_forced_shutdown_behind_refused_lines_of_the_same_read_is_logged():
+    with served() as (server, _, good):
+        assert good.ask(ADMIN + b"LOGIN x\n" * 64 + b"FSD su\n") == b"OK\n" * 2 + b"ERR UNKNOWN-UPS\n" * 64 + b"OK FSD-SET\n"
+        logs_of = server.journal().splitlines()
+        assert logs_of.count("upsd: su: admin@127.0.0.1 ordered FSD: forced shutdown") == 1, logs_of
+
+
+def what_matters_is_logged_behind_a_reader_that_sleeps():
+    """Of a standard error that nobody reads for three seconds, in a flood of a driver's long statuses: OB LB, and a forced shutdown."""
+    reading, errors = os.pipe()
+    longest = [b'SETINFO ups.status "OL %d%s"\n' % (number, b"\xff" * 505) for number in range(8)]
+    with served(errors=errors) as (server, driver, good):
+        os.close(errors)
+        assert good.ask(ADMIN) == b"OK\n" * 2
+        for _ in range(8):
+            driver.send(b"".join(longest))
+            time.sleep(1)
+        driver.send(b'SETINFO ups.status "OB LB"\n')
+        assert comes(lambda: b"OB LB" in good.ask(GET))
+        assert good.ask(b"FSD su\n") == b"OK FSD-SET\n"
+        lines = read_to_end_of_drops(reading, b"")
+        for line in "status OB LB", "admin@127.0.0.1 ordered FSD: forced shutdown":
+            assert lines.count(f"upsd: su: {line}") == 1, (line, lines[-5:])
+    os.close(reading)
+
+
+def a_count_has_the_priority_of_the_most_urgent_line():
+    with served(TWO, "--priorities") as (server, driver, _):
+        time.sleep(1 - time.time() % 1)
+        driver.send(b'SETINFO ups.status "OL"\nSETINFO ups.status "OB LB"\n' * 20)
+        assert comes(lambda: re.search("^<2>upsd: su: more lines: [0-9]+ status, [0-9]+ status with OB and LB; now data good, status OB LB$",
+                                       server.journal(), re.M)), server.journal()
+
+
+def each_of_two_upses_has_its_own_lines():
+    """A refused line of the second one's driver, and its login and logout."""
+    drivers = [Driver(path(f"{name}.sock")) for name in "ab"]
+    with begun(file("both.conf", "".join(f"[{name}]\nsocket = {path(name)}.sock\n" for name in "ab"))) as server:
+        for driver in drivers:
+            driver.accept(TWO)
+        assert comes(lambda: server.journal().count(": data good\n") == 2), server.journal()
+        drivers[1].send(b"NOPE\n")
+        client = server.client()
+        assert client.ask(MON + b"LOGIN b\nLOGOUT\n").endswith(b"Goodbye\n")
+        for line in ("mon@127.0.0.1 logged in", f"mon@127.0.0.1 logged out: {BY_ITSELF}", "lines of the driver refused: 1, the last one: "):
+            assert comes(lambda: f"upsd: b: {line}" in server.journal()), (line, server.journal())  # noqa: B023
+        assert "refused" not in server.journal().replace("upsd: b: lines of the driver refused", "")
+    for driver in drivers:
+        driver.close()
+
+
 COMINGS, GREATER_AGE = [], 20
 BEGAN = time.monotonic()
 STALE = []  # when the journal said so, of a driver that never reports all

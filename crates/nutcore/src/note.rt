@@ -60,10 +60,18 @@ pub struct Who {
     pub address: Address,
 }
 
+/// In a user's name a blank and `@` are escaped too, so that it can't pass for an address or for
+/// words of the journal.
 impl fmt::Display for Who {
     fn fmt<W: Write>(&self, f: &mut Formatter<W>) -> fmt::Result {
         if let Some(user) = &self.user {
-            write!(f, "{}@", user.as_bytes().escape_ascii())?;
+            for b in user.as_bytes() {
+                match b {
+                    b' ' | b'@' => write!(f, "\\x{b:02x}")?,
+                    _ => write!(f, "{}", [*b].escape_ascii())?,
+                }
+            }
+            f.write_str("@")?;
         }
         write!(f, "{}", self.address.as_bytes().escape_ascii())
     }

@@ -1,27 +1,54 @@
 -- What waits for standard error, and what is dropped.
-use Rattle.std.specs.Prelude.{ℕ, ◌+◌, ◌^◌, ◌-◌, min, List, ◌++◌, Bool, ◌&&◌, ◌||◌, ◌==◌}
+use Rattle.std.specs.Prelude.{ℕ, ◌+◌, ◌^◌, ◌-◌, ◌*◌, min, List, ◌++◌, Bool, ◌&&◌, ◌||◌, ◌==◌}
 use Rattle.std.specs.Prelude.{◌≡◌, Option, [], ◌∷◌, length, take, drop, nat_lt, if◌then◌else◌}
+use Rattle.std.specs.Prelude.{true, false}
 use Rattle.std.specs.Io.KnownBytes.{Appends}
 use Rattle.nutjournal.specs.declared.log_buffer.LogBuffer.{LogBuffer}
-use Rattle.nutjournal.specs.declared.log_buffer.TheConstants.{LOG_LIMIT}
+use Rattle.nutjournal.specs.declared.log_buffer.TheConstants.{CRITICAL, LOG_LIMIT, RESERVE, WARNING}
 
--- A line has room where none was dropped before it, and where it fits with its LF.
-abbrev pub has_room : List ℕ → LogBuffer → Bool
-has_room line was =
-    was.dropped == 0 && nat_lt (length line) (LOG_LIMIT - length was.waiting)
+-- The last bytes are for critical lines, and as many before these for warnings too.
+abbrev pub room_for : ℕ → ℕ
+room_for priority =
+    if priority == CRITICAL then LOG_LIMIT
+    else if priority == WARNING then LOG_LIMIT - RESERVE else LOG_LIMIT - 2 * RESERVE
 
-abbrev pub one_dropped : LogBuffer → LogBuffer
-one_dropped was = record was { dropped = min (was.dropped + 1) (2 ^ 64 - 1) }
+-- A line has room where none as urgent was dropped before it, and where it fits with its LF.
+abbrev pub has_room : ℕ → List ℕ → LogBuffer → Bool
+has_room priority line was =
+    nat_lt priority was.worst && nat_lt (length was.waiting + length line) (room_for priority)
+
+abbrev pub one_dropped : ℕ → LogBuffer → LogBuffer
+one_dropped priority was = record was {
+  dropped = min (was.dropped + 1) (2 ^ 64 - 1);
+  worst = min was.worst priority;
+}
 
 -- A line waits as the last one, ended by its LF, or is dropped.
-abbrev pub after_line : List ℕ → LogBuffer → LogBuffer
-after_line line was =
-    if has_room line was then record was { waiting = was.waiting ++ line ++ 10 ∷ [] }
-    else one_dropped was
+abbrev pub after_line : ℕ → List ℕ → LogBuffer → LogBuffer
+after_line priority line was =
+    if has_room priority line was then record was { waiting = was.waiting ++ line ++ 10 ∷ [] }
+    else one_dropped priority was
 
-pub record OneLineMore (old new : LogBuffer) : Type 0 where
+pub record OneLineMore (priority : ℕ) (old new : LogBuffer) : Type 0 where
   pub line : List ℕ
-  pub added : new ≡ after_line line old
+  pub added : new ≡ after_line priority line old
+
+-- A line more where it is due, and nothing else.
+abbrev pub MoreIf : Bool → ℕ → LogBuffer → LogBuffer → Type 0
+MoreIf true priority old new = OneLineMore priority old new
+MoreIf false priority old new = new ≡ old
+
+-- Once no line waits, the number of those that were dropped does, with the priority of the most
+-- urgent one, and none counts as dropped.
+abbrev pub none_dropped : LogBuffer → LogBuffer
+none_dropped log = record log { dropped = 0; worst = 2 ^ 8 - 1 }
+
+abbrev pub MoreAfter : Bool → LogBuffer → LogBuffer → Type 0
+MoreAfter true old new = OneLineMore old.worst (none_dropped old) new
+MoreAfter false old new = new ≡ old
+
+abbrev pub CountsDropped : LogBuffer → LogBuffer → Type 0
+CountsDropped old new = MoreAfter (length old.waiting == 0 && nat_lt 0 old.dropped) old new
 
 -- A writer took the first bytes of what waited, and all others still wait.
 pub record IsWritten {W : Type 0} (contents : W → Option (List ℕ)) (was is : List ℕ) (out out' : W)

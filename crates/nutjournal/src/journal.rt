@@ -12,10 +12,10 @@ use crate::tallies::{Of, Tallies, is_any_counted};
 use crate::tally::{Count, HOUR, Kind, MINUTE, begins_minute};
 use nutargs::Said;
 use nutcommand::ErrWord;
-use nutcore::{DataState, Deed, MaxAge, Note, SESSION_LIMIT, Server, UpsId, Verb, Who};
+use nutcore::{DataState, Deed, MaxAge, Note, SESSION_LIMIT, Server, UpsId, Verb};
 use nutwords::{Address, UpsName};
 use std::alloc::AllocError;
-use std::fmt::{self, Display, Formatter, Write};
+use std::fmt::Display;
 use std::io::Error;
 use std::mem;
 
@@ -315,12 +315,12 @@ impl Journal {
                 self.drivers[u.place as usize].refuse(*fault);
             }
             Note::LoggedIn(u, who) => {
-                let (of, who) = (Of::Client(&who.address), Shown(who));
+                let of = Of::Client(&who.address);
                 let line = format_args!("{who} logged in");
                 self.log(of, Kind::LoggedIn, name(u), &line);
             }
             Note::LoggedOut(u, who) => {
-                let (of, who) = (Of::Client(&who.address), Shown(who));
+                let of = Of::Client(&who.address);
                 let line = format_args!("{who} logged out: {}", reason_of(left));
                 self.log(of, Kind::LoggedOut, name(u), &line);
             }
@@ -341,7 +341,7 @@ impl Journal {
             Verb::InstCmd => "INSTCMD",
         };
         let (of, ups) = (Of::Client(&deed.who.address), deed.ups.as_ref());
-        let who = Shown(&deed.who);
+        let who = &deed.who;
         let name = deed.name.as_ref();
         let name = name.map_or(b"".as_slice(), |name| name.as_bytes());
         let (space, name) = (if name.is_empty() { "" } else { " " }, name.escape_ascii());
@@ -426,25 +426,5 @@ fn kind_of_status(status: &[u8]) -> Kind {
         (true, true) => Kind::LowBattery,
         (false, false) => Kind::Status,
         _ => Kind::Alarm,
-    }
-}
-
-/// A user and an address as the journal shows them: in a user's name a blank and `@` are escaped
-/// too, so that it can't pass for an address or for words of the journal.
-#[derive(Clone, Copy)]
-struct Shown<'a>(&'a Who);
-
-impl fmt::Display for Shown<'_> {
-    fn fmt<W: Write>(&self, f: &mut Formatter<W>) -> fmt::Result {
-        if let Some(user) = &self.0.user {
-            for b in user.as_bytes() {
-                match b {
-                    b' ' | b'@' => write!(f, "\\x{b:02x}")?,
-                    _ => write!(f, "{}", [*b].escape_ascii())?,
-                }
-            }
-            f.write_str("@")?;
-        }
-        write!(f, "{}", self.0.address.as_bytes().escape_ascii())
     }
 }

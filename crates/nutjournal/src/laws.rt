@@ -1,12 +1,13 @@
 //! The numbers of the journal, and what it logs and counts.
 ghost use Rattle.std.specs.Prelude.{◌≡◌};
 ghost use Rattle.nutjournal.specs.Tally.{EachLineIsLoggedOrCounted, LossesAreLoggedInTheirMinute};
-ghost use Rattle.nutjournal.specs.declared.log_buffer.TheConstants.{LOG_LIMIT};
+ghost use Rattle.nutjournal.specs.declared.log_buffer.TheConstants.{LOG_LIMIT, RESERVE};
 ghost use Rattle.nutjournal.specs.declared.tallies.TheConstants.{ADDRESS_COUNT};
 ghost use Rattle.nutjournal.specs.declared.tally.TheConstants.{ALARM_LIMIT, LINE_LIMIT, LOSS_LIMIT, MINUTE, PLAIN_LIMIT};
 
 /// The most lines in a second of a UPS or an address, the addresses with a count of their own, the
-/// losses logged in a minute, and the most bytes that wait.
+/// losses logged in a minute, the most bytes that wait, and how many of them only critical lines,
+/// and then only these and warnings, may fill.
 pub fn numbers()
     ensures lines { LINE_LIMIT ≡ 10 }
     ensures alarms { ALARM_LIMIT ≡ 9 }
@@ -15,6 +16,7 @@ pub fn numbers()
     ensures losses { LOSS_LIMIT ≡ 2 }
     ensures minute { MINUTE ≡ 60 }
     ensures waiting { LOG_LIMIT ≡ 32768 }
+    ensures reserve { RESERVE ≡ 8192 }
 {}
 
 /// Of the lines of a UPS, or of an address, each is logged, or counted by its kind, and none both.

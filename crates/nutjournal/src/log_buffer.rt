@@ -1,7 +1,7 @@
 //! The lines of the journal on their way to standard error. It may be a pipe or a terminal that
 //! nobody reads, so no write waits.
 ghost use Rattle.std.specs.Prelude.{◌≡◌, [], IfOk};
-ghost use Rattle.nutjournal.specs.LogBuffer.{IsWritten, OneLineMore, after_line, has_waiting};
+ghost use Rattle.nutjournal.specs.LogBuffer.{CountsDropped, IsWritten, MoreIf, OneLineMore, after_line, has_waiting, room_for};
 
 use arrayvec::ArrayString;
 use libc::STDERR_FILENO;
@@ -28,6 +28,9 @@ pub const INFO: u8 = 6;
 /// The most bytes of lines that wait.
 pub const LOG_LIMIT: usize = 32_768;
 
+/// The last of them are for critical lines, and as many before these for warnings too.
+pub const RESERVE: usize = 8192;
+
 /// No line has more bytes: a status has at most 512, each of which is shown by at most four.
 const LINE_LIMIT: usize = 4 * 512 + 256;
 
@@ -40,6 +43,8 @@ pub struct LogBuffer {
     has_priorities: bool,
     pub waiting: ByteQueue<LOG_LIMIT>,
     pub dropped: u64,
+    /// The priority of the most urgent line that was dropped: above all, where none was.
+    worst: u8,
     /// Standard error where it is a terminal, opened again so that no write to it waits.
     terminal: Option<File>,
 }
@@ -58,6 +63,7 @@ impl LogBuffer {
             has_priorities,
             waiting: ByteQueue::new(rt.alloc())?,
             dropped: 0,
+            worst: u8::MAX,
             terminal: terminal(rt),
         })
     }
@@ -68,9 +74,10 @@ impl LogBuffer {
     }
 
     /// Adds a line of this priority, about the UPS if there is one. A line that has no room is
-    /// dropped and counted. So are those after it, until the count is logged. Takes no memory.
+    /// dropped and counted. So are those after it that aren't more urgent, until the count is
+    /// logged. Takes no memory.
     pub fn add<D: Display>(&mut self, priority: u8, ups: Option<&UpsName>, line: &D)
-        ensures { OneLineMore self.old self.new }
+        ensures { OneLineMore priority self.old self.new }
     {
         let mut text = ArrayString::<LINE_LIMIT>::new();
         if self.has_priorities {
@@ -79,25 +86,28 @@ impl LogBuffer {
         let name = ups.map_or(b"".as_slice(), |ups| ups.as_bytes());
         let colon = if name.is_empty() { "" } else { ": " };
         let _ = write!(text, "upsd: {}{colon}{line}", name.escape_ascii());
-        self.add_line(text.as_bytes());
+        self.add_line(priority, text.as_bytes());
     }
 
     /// Adds a line, where it is due.
-    pub fn add_if<D: Display>(&mut self, due: bool, priority: u8, ups: Option<&UpsName>, line: &D) {
+    pub fn add_if<D: Display>(&mut self, due: bool, priority: u8, ups: Option<&UpsName>, line: &D)
+        ensures { MoreIf due priority self.old self.new }
+    {
         if due {
             self.add(priority, ups, line);
         }
     }
 
     /// Adds a line with its LF, or counts it as dropped.
-    fn add_line(&mut self, line: &[u8])
-        ensures { self.new ≡ after_line line.now self.old }
+    fn add_line(&mut self, priority: u8, line: &[u8])
+        ensures { self.new ≡ after_line priority line.now self.old }
     {
-        if self.dropped == 0 && line.len() < self.waiting.free() {
+        if priority < self.worst && self.waiting.len() + line.len() < room_for(priority) {
             self.waiting.push(line);
             self.waiting.push(b"\n");
         } else {
             self.dropped = self.dropped.saturating_add(1);
+            self.worst = self.worst.min(priority);
         }
     }
 
@@ -111,30 +121,56 @@ impl LogBuffer {
     /// Writes what waits, as far as standard error takes it without waiting.
     pub fn flush(&mut self, rt: &HostRuntime) {
         for _ in 0..=LOG_LIMIT / PIECE_LIMIT {
-            if self.waiting.len() == 0 {
-                let count = mem::replace(&mut self.dropped, 0);
-                let line = format_args!("{count} lines of the journal were dropped");
-                self.add_if(count > 0, INFO, None, &line);
-            }
+            self.count_dropped();
             if self.waiting.len() == 0 || !takes_bytes() {
                 return;
             }
-            match &mut self.terminal {
+            let is_taken = match &mut self.terminal {
                 Some(terminal) => write_piece(&mut self.waiting, terminal),
                 None => write_piece(&mut self.waiting, &mut rt.stderr()),
+            };
+            if !is_taken {
+                return;
             }
+        }
+    }
+
+    /// Once no line waits, adds how many were dropped, with the priority of the most urgent one.
+    fn count_dropped(&mut self)
+        ensures { CountsDropped self.old self.new }
+    {
+        if self.waiting.len() == 0 && self.dropped > 0 {
+            let count = mem::replace(&mut self.dropped, 0);
+            let worst = mem::replace(&mut self.worst, u8::MAX);
+            let line = format_args!("{count} lines of the journal were dropped");
+            self.add(worst, None, &line);
         }
     }
 }
 
-/// Writes a piece of what waits. What the writer takes waits no longer, and all else does.
-fn write_piece<W: Write>(waiting: &mut ByteQueue<LOG_LIMIT>, out: &mut W)
+/// How many bytes may wait after a line of this priority.
+fn room_for(priority: u8) -> usize
+    ensures { result ≡ room_for priority }
+{
+    match priority {
+        CRITICAL => LOG_LIMIT,
+        WARNING => LOG_LIMIT - RESERVE,
+        _ => LOG_LIMIT - 2 * RESERVE,
+    }
+}
+
+/// Writes a piece of what waits. What the writer takes waits no longer, and all else does. Whether
+/// it took any.
+fn write_piece<W: Write>(waiting: &mut ByteQueue<LOG_LIMIT>, out: &mut W) -> bool
     ensures { IsWritten W.contents waiting.old waiting.new out.old out.new }
 {
     let count = waiting.len().min(PIECE_LIMIT);
     match out.write(&waiting.bytes()[..count]) {
-        Ok(taken) => waiting.drop_front(taken),
-        Err(_) => {}
+        Ok(taken) => {
+            waiting.drop_front(taken);
+            taken > 0
+        }
+        Err(_) => false,
     }
 }
 
