@@ -1025,6 +1025,28 @@ def nothing_grows():
         logs(server)
 
 
+def departures(server, driver, good, times):
+    """Each client stops within a listing, all values change, and it leaves: nobody else has what it was listing."""
+    values = [b"".join(b'SETINFO gone.v%d "%s"\n' % (number, byte * 100) for number in range(500)) for byte in (b"x", b"y")]
+    for time_ in range(times):
+        client = server.client()
+        client.send(b"LIST VAR su\n" * 100)
+        driver.send(values[time_ % 2] + b'SETINFO gone.times "%d"\n' % time_)
+        assert comes(lambda: good.ask(b"GET VAR su gone.times\n").endswith(b' "%d"\n' % time_))  # noqa: B023
+        client.close()
+
+
+def what_clients_held_that_left_is_freed():
+    with served(many(500, 100)) as (server, driver, good):
+        departures(server, driver, good, 3)
+        time.sleep(0.2)
+        before = server.kilobytes()
+        departures(server, driver, good, 100)
+        time.sleep(0.2)
+        grown = server.kilobytes() - before
+        assert EMULATED or grown <= 64, f"{grown} KB more"
+
+
 def is_null(process, number):
     with contextlib.suppress(OSError):
         return os.readlink(f"/proc/{process}/fd/{number}") == "/dev/null"

@@ -27,8 +27,8 @@ use std::net::Net;
 use std::time::{Clock, Duration};
 
 impl<'a, R: Net + Clock, F: Read + Drop> MioSockets<'a, R, F> {
-    /// Asks the system, and waits for it where nobody had a turn and nothing is due; and the clock.
-    /// A tick, where the clock has a later second than the server, or else the first turn of a new
+    /// Asks the system, and waits for it where nobody had a turn, nothing is due and no tree waits
+    /// to be taken apart; and the clock. A tick, where the clock has a later second than the server, or else the first turn of a new
     /// pass.
     pub(super) fn first_turn(&mut self, server: &Server, soon: bool) -> io::Result<Ready>
         ensures begins { IfOk result (λ ready.
@@ -43,7 +43,10 @@ impl<'a, R: Net + Clock, F: Read + Drop> MioSockets<'a, R, F> {
         ensures failures { self.new.failures ≡ self.old.failures }
         ensures stay { StayInTheirPlaces self.old.clients.items self.new.clients.items }
     {
-        let until = self.wakes_at(server, soon);
+        let until = match server.has_waste() {
+            true => 0,
+            false => self.wakes_at(server, soon),
+        };
         self.wait(server, soon, until)?;
         self.hear();
         self.pass = Pass::default();
