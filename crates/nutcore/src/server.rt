@@ -37,6 +37,7 @@ use crate::note::{Note, Notes};
 use crate::scratch::Scratch;
 use crate::session::Session;
 use crate::ups::{Moment, Ups};
+use nutdriver::Waste;
 use nutdriver::laws::{
     each_line_keeps_the_tree_sound, lawful_lines_keep_trees_sound, read_lines_are_lawful,
 };
@@ -118,6 +119,7 @@ struct Rooms {
     tracking: Tracking,
     clients: Clients,
     notes: Notes,
+    waste: Waste,
 }
 
 impl Rooms {
@@ -139,6 +141,7 @@ impl Rooms {
             tracking: Tracking::new(alloc)?,
             clients: Clients::new(alloc)?,
             notes: Notes::new(alloc)?,
+            waste: Waste::new(alloc)?,
         })
     }
 }
@@ -165,6 +168,7 @@ impl Server {
             tracking,
             clients,
             notes,
+            waste,
         } = Rooms::new(alloc, list.len())?;
         Ok(Server {
             alloc,
@@ -182,6 +186,7 @@ impl Server {
                 line: Line::new(),
                 renders: 0,
                 clients,
+                waste,
             },
             placed: 0,
             notes,
@@ -220,11 +225,27 @@ impl Server {
         self.notes.as_slice()
     }
 
-    /// What the last event cost and did is forgotten, as once a journal has its notes.
+    /// Takes nodes of trees apart that nobody has any more, at most 1,024. Takes no memory.
+    pub fn take_apart(&mut self)
+        ensures { self.new ≡ self.old }
+    {
+        if self.has_waste() {
+            let _ = self.scratch.waste.take_apart();
+        }
+    }
+
+    /// Whether trees wait to be taken apart.
+    pub fn has_waste(&self) -> bool {
+        !self.scratch.waste.is_empty()
+    }
+
+    /// What the last event cost and did is forgotten, as once a journal has its notes. Each event
+    /// begins with that, and nodes are taken apart as by `take_apart`.
     pub fn forget(&mut self)
         ensures begun { self.new ≡ begun self.old.state }
         ensures sound { IsSound self.new.state }
     {
+        self.take_apart();
         self.scratch.renders = 0;
         self.placed = 0;
         self.notes.clear();
@@ -275,7 +296,8 @@ impl Server {
             max_age: self.max_age,
         };
         let ups = &mut self.upses[u.place as usize];
-        ups.report(u, now, piece, &mut self.tracking, &mut self.notes)
+        let waste = &mut self.scratch.waste;
+        ups.report(u, now, piece, &mut self.tracking, &mut self.notes, waste)
     }
 
     /// What is offered to the driver: all that it is owed, at most 2,048 bytes, and nothing where
@@ -337,7 +359,8 @@ impl Server {
         self.connected(u)?;
         every_server_is_sound();
         let ups = &mut self.upses[u.place as usize];
-        ups.lose(u, &mut self.notes);
+        let tree = ups.lose(u, &mut self.notes);
+        self.scratch.waste.add(tree);
         Ok(())
     }
 
@@ -519,7 +542,8 @@ impl Server {
         self.forget();
         let place = self.place_of(c)?;
         self.sessions[place].note_logout(&mut self.notes);
-        drop(self.sessions.remove(place));
+        let session = self.sessions.remove(place);
+        session.end(&mut self.scratch.waste);
         Ok(())
     }
 

@@ -23,10 +23,11 @@ ghost use Rattle.nutlisting.specs.Owed.{owed};
 use crate::HELD_LIMIT;
 use crate::lines::{ReadLine, line_end};
 use crate::note::{Deed, Note, Notes, Verb, Who};
-use crate::scratch::Scratch;
+use crate::scratch::{Scratch, discard};
 use crate::server::Standing;
 use nutanswer::{Asker, Change, Reply};
 use nutcommand::{Command, ErrWord, ValueWord};
+use nutdriver::Waste;
 use nutio::ByteQueue;
 use nutlisting::{Clients, Outbox};
 use nutusers::{Password, UpsId, UserName};
@@ -242,6 +243,7 @@ impl Session {
             line,
             renders,
             clients,
+            ..
         } = scratch;
         match reply {
             Reply::Refused(word) => self.outbox.push(word.line(), renders),
@@ -369,7 +371,8 @@ impl Session {
         self.outbox.offered()
     }
 
-    /// The client took n bytes of what it is offered.
+    /// The client took n bytes of what it is offered. A version of a tree that is left of a listing
+    /// goes to the waste.
     pub(crate) fn take(&mut self, n: usize, scratch: &mut Scratch)
         requires few { n ≤ length (take QUEUE_LIMIT self.old.owed) }
         requires none { scratch.old.renders ≡ 0 }
@@ -381,8 +384,19 @@ impl Session {
     {
         // What the outbox says of itself.
         let _ = self.outbox.offered();
-        let Scratch { line, renders, .. } = scratch;
-        self.outbox.take(n, line, renders);
+        let Scratch {
+            line,
+            renders,
+            waste,
+            ..
+        } = scratch;
+        let version = self.outbox.take(n, line, renders);
+        discard(version, waste);
+    }
+
+    /// It ends. A version of a tree that is left of a listing goes to the waste.
+    pub(crate) fn end(self, waste: &mut Waste) {
+        discard(self.outbox.into_version(), waste);
     }
 }
 

@@ -17,13 +17,14 @@ use crate::event::Fault;
 use crate::note::{DataState, Note, Notes, note_data};
 use arrayvec::ArrayVec;
 use nutdriver::laws::{other_lines_leave_the_value, reported_numbers_are_lawful};
-use nutdriver::{DriverFault, DriverLine, LineOutcome, Report, Tree};
+use nutdriver::{DriverFault, DriverLine, LineOutcome, Report, Tree, Waste};
 use nutmap::Meter;
 use nuttracking::Tracking;
 use nutusers::UpsId;
 use nutwords::{Found, LineCut, Name, Value};
 use std::alloc::{AllocError, Global};
 use std::marker::Model;
+use std::mem;
 
 /// The line by which a driver is asked whether it is there.
 const PING_LINE: &[u8] = b"PING\n";
@@ -178,37 +179,43 @@ impl Ups {
         ensures noted { notes.new ≡ with_note (Some (Data u Awaited)) notes.old }
     {
         notes.extend(Some(Note::Data(u, DataState::Awaited)));
-        self.disconnect();
+        // It had no driver, and so no variables.
+        drop(self.disconnect());
         self.report = Report::connected(self.alloc, moment);
         self.pinged = moment;
         self.owed.try_extend_from_slice(b"DUMPALL\n").unwrap();
     }
 
-    /// Its driver is lost, which is noted, and what it reported with it. Takes no memory.
-    pub(crate) fn lose(&mut self, u: UpsId, notes: &mut Notes)
+    /// Its driver is lost, which is noted, and what it reported with it: the answer is its tree.
+    /// Takes no memory.
+    pub(crate) fn lose(&mut self, u: UpsId, notes: &mut Notes) -> Tree
         ensures lost { self.new ≡ after_loss self.old }
+        ensures tree { result ≡ self.old.report.tree }
         ensures noted { notes.new ≡ take NOTE_LIMIT (notes.old ++ loss_notes u self.old) }
     {
         notes.extend(Some(Note::Data(u, DataState::Lost)));
         if self.status.is_some() {
             notes.extend(Some(Note::StatusChanged(u, None)));
         }
-        self.disconnect();
+        self.disconnect()
     }
 
-    /// It has no driver, and nothing that one reported.
-    fn disconnect(&mut self)
-        ensures { self.new ≡ after_loss self.old }
+    /// It has no driver, and nothing that one reported: the answer is its tree.
+    fn disconnect(&mut self) -> Tree
+        ensures lost { self.new ≡ after_loss self.old }
+        ensures tree { result ≡ self.old.report.tree }
     {
-        self.report = Report::lost(self.alloc);
+        let report = mem::replace(&mut self.report, Report::lost(self.alloc));
         self.pinged = 0;
         self.owed.clear();
         self.cut = LineCut::new();
         self.status = None;
+        report.tree
     }
 
     /// Does what the whole lines of its driver say, as far as they came, and notes it. Where 2,048
-    /// bytes come without an LF, or memory is refused, the driver is lost, and the rest is dropped.
+    /// bytes come without an LF, or memory is refused, the driver is lost, its tree goes to the
+    /// waste, and the rest is dropped.
     ///
     /// # Errors
     ///
@@ -220,6 +227,7 @@ impl Ups {
         piece: &[u8],
         tracking: &mut Tracking,
         notes: &mut Notes,
+        waste: &mut Waste,
     ) -> Result<(), Fault>
         requires room { length notes.old ≤ NOTE_LIMIT }
         ensures { Reports now.max_age now.seconds u (self.old.unfinished ++ piece.now)
@@ -233,12 +241,12 @@ impl Ups {
                 Found::Joined(used) => (None, used),
                 Found::NeedsMore => return Ok(()),
                 Found::TooLong => {
-                    self.lose(u, notes);
+                    waste.add(self.lose(u, notes));
                     return Err(Fault::LineTooLong);
                 }
             };
             if self.execute(u, now, rest, length, tracking, notes).is_err() {
-                self.lose(u, notes);
+                waste.add(self.lose(u, notes));
                 return Err(Fault::Memory(done));
             }
             rest = unused(rest, used);

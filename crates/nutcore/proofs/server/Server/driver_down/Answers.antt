@@ -17,14 +17,14 @@ pub returns : goal.returns
 returns c =
     let at = stood c.self.view_is c.in_ok-connected.ensures.connected c.index_mut-ups.ensures.value in
     plain_event (DriverDown c.args.u) tt (c.self.view_is ∙ c.forget.ensures.begun) c.self.invariant.sound refl
-    (down_does at c.lose.ensures.lost)
-    (down_noted at (none_noted (c.self.view_is ∙ c.forget.ensures.begun)) c.lose.ensures.noted)
+    (down_does at c.lose-tree.ensures.lost)
+    (down_noted at (none_noted (c.self.view_is ∙ c.forget.ensures.begun)) c.lose-tree.ensures.noted)
 
 pub invariant_of-self : goal.invariant_of-self
 invariant_of-self c =
     let at = stood c.self.view_is c.in_ok-connected.ensures.connected c.index_mut-ups.ensures.value in
     record {
-      sound = c.every_server_is_sound.ensures.event _ _ (DriverDown c.args.u) _ (down_does at c.lose.ensures.lost)
+      sound = c.every_server_is_sound.ensures.event _ _ (DriverDown c.args.u) _ (down_does at c.lose-tree.ensures.lost)
           c.self.invariant.sound;
       room = c.self.invariant.room;
     }

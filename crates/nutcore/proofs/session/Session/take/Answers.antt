@@ -12,6 +12,6 @@ returns-clause-counted c =
     length (take QUEUE_LIMIT c.args.self.now.owed) = sym c.offered.ensures.queue ∙
     c.offered.ensures.offered ∙ ap (λ (xs : List ℕ). length (take QUEUE_LIMIT xs)) same in
     let few : c.args.n ≤ length c.self.inside.outbox.queue = omega (arith, queue, c.requires.few) in
-    rw (← queue, c.take.ensures.owed)
+    rw (← queue, c.take-version.ensures.owed)
     (what_is_placed_is_counted.taken c.self.inside.outbox.queue c.self.inside.outbox.cursor c.args.n
-    _ _ c.offered.ensures.outbox few c.requires.none c.take.ensures.counts)
+    _ _ c.offered.ensures.outbox few c.requires.none c.take-version.ensures.counts)
