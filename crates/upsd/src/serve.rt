@@ -221,7 +221,13 @@ fn go_round<'a, F: Read + Drop, W: Sink + Drop>(
         let error_of = |u| sockets.driver_error(u);
         let crowd = || crowd_of(sockets);
         let is_cut = matches!(&served.recorder, Some(one) if one.is_cut());
-        journal.write(rt, &served.server, error_of, crowd, doings_of(sockets, is_cut))
+        journal.write(
+            rt,
+            &served.server,
+            error_of,
+            crowd,
+            doings_of(sockets, is_cut),
+        )
     }) {
         Ok(()) => Ok(()),
         Err(fault) => Err(Ending::Loop(fault)),
