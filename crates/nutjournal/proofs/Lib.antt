@@ -1,3 +1,3 @@
 mod Lines
-mod Leads
 mod Seconds
+pub mod Due

@@ -4,3 +4,4 @@ pub mod LogBuffer
 pub mod Drivers
 pub mod Waiting
 pub mod Refusals
+pub mod Lines

@@ -1,7 +1,7 @@
 -- The lines of a second, by what they are of.
-use Rattle.std.specs.Prelude.{◌≡◌, ℕ, ◌+◌, ◌++◌, take, drop, Bool, false, true, map, List, [], ◌∷◌}
+use Rattle.std.specs.Prelude.{ℕ, ◌+◌, ◌++◌, take, drop, Bool, false, true, map, List, [], ◌∷◌}
 use Rattle.std.specs.Prelude.{if◌then◌else◌, ◌==◌, ◌&&◌, nat_lt, length, slice_get, slice_set}
-use Rattle.std.specs.Prelude.{unwrap_or, fold, Option, Some}
+use Rattle.std.specs.Prelude.{unwrap_or, Option, Some}
 use Rattle.std.specs.List.{position_or_len}
 use Rattle.std.specs.Option.{option_map_or}
 use Rattle.std.specs.Str.{bytes_eq}
@@ -25,10 +25,16 @@ place_of address all = position_or_len (is address) all
 
 -- That of the UPS of a place, or of an address: its own, or that of all others where there is no
 -- room for it.
+abbrev pub tally_of_ups : ℕ → Tallies → Tally
+tally_of_ups place all = unwrap_or (slice_get all.upses place) fresh
+
+abbrev pub tally_of_address : List ℕ → Tallies → Tally
+tally_of_address address all =
+    unwrap_or (slice_get all.clients (place_of address all.addresses.items)) fresh
+
 abbrev pub tally_of : Of → Tallies → Tally
-tally_of (Ups place) all = unwrap_or (slice_get all.upses place) fresh
-tally_of (Client address) all =
-    unwrap_or (slice_get all.clients (place_of address.now all.addresses.items)) fresh
+tally_of (Ups place) all = tally_of_ups place all
+tally_of (Client address) all = tally_of_address address.now all
 
 abbrev pub with_address : List ℕ → List (Option (List ℕ)) → List (Option (List ℕ))
 with_address address all =
@@ -36,15 +42,21 @@ with_address address all =
     then all ++ Some address ∷ [] else all
 
 -- After a line it has one more.
-abbrev pub after_line_of : Of → Kind → Tallies → Tallies
-after_line_of (Ups place) kind all =
-    record all { upses = slice_set all.upses place (after_line (tally_of (Ups place) all) kind) }
-after_line_of (Client address) kind all =
+abbrev pub after_ups : ℕ → Kind → Tallies → Tallies
+after_ups place kind all =
+    record all { upses = slice_set all.upses place (after_line (tally_of_ups place all) kind) }
+
+abbrev pub after_address : List ℕ → Kind → Tallies → Tallies
+after_address address kind all =
     record all {
-      addresses = record { items = with_address address.now all.addresses.items };
-      clients = slice_set all.clients (place_of address.now all.addresses.items)
-          (after_line (tally_of (Client address) all) kind);
+      addresses = record { items = with_address address all.addresses.items };
+      clients = slice_set all.clients (place_of address all.addresses.items)
+          (after_line (tally_of_address address all) kind);
     }
+
+abbrev pub after_line_of : Of → Kind → Tallies → Tallies
+after_line_of (Ups place) kind all = after_ups place kind all
+after_line_of (Client address) kind all = after_address address.now kind all
 
 abbrev pub first_mapped : (Tally → Tally) → ℕ → List Tally → List Tally
 first_mapped f n all = map f (take n all) ++ drop n all
@@ -58,8 +70,3 @@ after_second_of count is_minute all = record {
   addresses = record { items = [] };
   clients = first_mapped (λ y. after_second y true) (length all.addresses.items + 1) all.clients;
 }
-
--- These tallies come of those by some lines alone, each of which is logged or counted.
-pub record LeadsTo (old new : Tallies) : Type 0 where
-  pub lines : List (Of × Kind)
-  pub leads : new ≡ fold (λ all line. after_line_of line.0 line.1 all) old lines

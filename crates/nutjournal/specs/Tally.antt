@@ -9,6 +9,7 @@ use Rattle.nutjournal.specs.declared.tally.Count.{Count}
 use Rattle.nutjournal.specs.declared.tally.Kind.{Kind}
 use Rattle.nutjournal.specs.declared.tally.Kind.TheVariants as kinds
 use Rattle.nutjournal.specs.declared.tally.Tally.{Tally}
+use Rattle.nutjournal.specs.declared.log_buffer.TheConstants.{CRITICAL, WARNING, NOTICE, INFO}
 use Rattle.nutjournal.specs.declared.tally.TheConstants.{LINE_LIMIT, ALARM_LIMIT, PLAIN_LIMIT}
 use Rattle.nutjournal.specs.declared.tally.TheConstants.{LOSS_LIMIT, MINUTE}
 
@@ -22,6 +23,19 @@ limit_of kinds.LowBattery = ALARM_LIMIT
 limit_of kinds.Order = ALARM_LIMIT
 limit_of kinds.EmptyOrder = ALARM_LIMIT
 limit_of kind = PLAIN_LIMIT
+
+-- How urgent a line of a kind is (syslog(3)).
+abbrev pub priority_of : Kind → ℕ
+priority_of kinds.LowBattery = CRITICAL
+priority_of kinds.ForcedShutdown = CRITICAL
+priority_of kinds.Lost = WARNING
+priority_of kinds.Stale = WARNING
+priority_of kinds.Alarm = WARNING
+priority_of kinds.Denied = WARNING
+priority_of kinds.EmptyOrder = WARNING
+priority_of kinds.GaveWay = WARNING
+priority_of kinds.Order = NOTICE
+priority_of kind = INFO
 
 -- The number of a kind.
 abbrev pub number : Kind → ℕ

@@ -1,5 +1,5 @@
 -- What is still to be logged, for which the journal asks to be called in the next second.
-use Rattle.std.specs.Prelude.{◌≡◌, ℕ, Bool, true, false, List, [], ◌∷◌, ◌||◌, not, if◌then◌else◌}
+use Rattle.std.specs.Prelude.{◌≡◌, ℕ, Bool, true, false, List, ◌∷◌, ◌||◌, not, if◌then◌else◌}
 use Rattle.std.specs.Prelude.{is_none, is_some, ◌&&◌}
 use Rattle.std.specs.Prelude.{take}
 use Rattle.std.specs.List.{list_any}

@@ -1,7 +1,9 @@
 //! The journal of the UPSs and their clients while they are served.
 ghost use Rattle.std.specs.Prelude.{◌≡◌, ◌≢◌, ◌≤◌, ◌||◌, [], length, false, true, IfOk, Some};
 ghost use Rattle.nutjournal.specs.Tally.{begins_minute};
-ghost use Rattle.nutjournal.specs.Tallies.{LeadsTo, after_second_of};
+ghost use Rattle.nutjournal.specs.Lines.{BegunCall, DueMore, NoteMore, after_call, after_due, after_notes, due_by, has_word, kind_of_data, kind_of_refusal, kind_of_status, left_due, makes_good, of_deed};
+ghost use Rattle.nutjournal.specs.Tallies.{after_second_of};
+ghost use Rattle.std.specs.List.{list_any};
 ghost use Rattle.nutjournal.specs.Waiting.{AsksForMore, are_behind, are_none, holds};
 
 use crate::doings::{Crowd, Doings, Leave};
@@ -18,9 +20,6 @@ use std::alloc::AllocError;
 use std::fmt::Display;
 use std::io::Error;
 use std::mem;
-
-/// What is logged of data, by the number of their state.
-const DATA: [Kind; 4] = [Kind::Lost, Kind::Awaited, Kind::Good, Kind::Stale];
 
 /// What is counted beside the server's notes, and whether a line of it comes once a minute at most.
 const COUNTED: [(&str, bool); 2] = [
@@ -85,7 +84,6 @@ impl Journal {
     ///
     /// `error_of` gives the number of the system's error by which the driver of a UPS couldn't be
     /// connected to. `crowd` says who has the places, where three quarters of them are taken.
-    #[tactic(auto, using(crate::proofs::Leads::same, crate::proofs::Leads::joined))]
     pub fn write<E: Fn(UpsId) -> Option<i32>, C: Fn() -> Option<Crowd>>(
         &mut self,
         rt: &HostRuntime,
@@ -103,11 +101,12 @@ impl Journal {
             → AsksForMore (length server.now.state.list) self.new }
         ensures more { result
             ≡ (self.new.has_more || are_behind doings.entry self.new) }
-        // Within a second the tallies only change by lines, each of which is logged or counted.
         ensures goes_on { self.old.moment ≡ Some server.now.state.moment
-            → LeadsTo self.old.tallies self.new.tallies }
+            → self.new.tallies ≡ after_call server.now.state.moment server.now.notes doings.entry
+            self.old.drivers self.old.tallies }
         ensures begins { self.old.moment ≢ Some server.now.state.moment
-            → LeadsTo (after_second_of (length server.now.state.list)
+            → BegunCall server.now.state.moment server.now.notes doings.entry
+            (after_second_of (length server.now.state.list)
             (begins_minute self.old.moment server.now.state.moment) self.old.tallies)
             self.new.tallies }
     {
@@ -122,9 +121,7 @@ impl Journal {
         } else if server.notes().is_empty() && doings.are_none() {
             return self.has_more || self.is_behind(doings);
         }
-        for note in server.notes() {
-            self.log_note(server, note, doings.left);
-        }
+        self.log_notes(server, doings.left);
         self.log_doings(doings);
         self.log.flush(rt);
         let is_new = !server.notes().is_empty() || !doings.are_none();
@@ -175,7 +172,7 @@ impl Journal {
             let (ups, driver) = (server.ups().name(u), &mut drivers[place]);
             let more = tallies.upses[place].reported(is_minute);
             if let Some(priority) = more.priority() {
-                let (state, _, _) = DATA[driver.state as usize].row();
+                let (state, _, _) = kind_of_data(driver.state).row();
                 let status = server.status(u).unwrap_or(b"").escape_ascii();
                 let line = format_args!("more lines: {more}; now {state}, status {status}");
                 log.add(priority, ups, &line);
@@ -250,10 +247,9 @@ impl Journal {
     }
 
     /// Logs that a client was ended for its silence, or counts it, and counts who was sent away.
-    #[tactic(auto, using(crate::proofs::Leads::same))]
     fn log_doings(&mut self, doings: Doings<'_>)
         ensures moment { self.new.moment ≡ self.old.moment }
-        ensures tallies { LeadsTo self.old.tallies self.new.tallies }
+        ensures tallies { self.new.tallies ≡ after_due (left_due doings.entry) self.old.tallies }
     {
         if let Some(address) = doings.sent_away {
             self.refusals.add(address);
@@ -277,20 +273,30 @@ impl Journal {
     }
 
     /// Logs a line of this kind, which names the UPS if there is one, or counts it.
-    #[tactic(auto, using(crate::proofs::Leads::of_line))]
+    #[tactic(auto, using(crate::proofs::Due::one_due))]
     fn log<D: Display>(&mut self, of: Of<'_>, kind: Kind, ups: Option<&UpsName>, line: &D)
-        ensures moment { self.new.moment ≡ self.old.moment }
-        ensures tallies { LeadsTo self.old.tallies self.new.tallies }
+        ensures { DueMore (due_by of.entry kind) self.old self.new }
     {
         let due = self.tallies.takes(of, kind);
         self.log.add_if(due, kind.row().1, ups, line);
     }
 
-    /// Logs a note of the server, or counts it.
-    #[tactic(auto, using(crate::proofs::Leads::same))]
-    fn log_note(&mut self, server: &Server, note: &Note, left: Option<(&Address, Leave<'_>)>)
+    /// Logs the notes of the server's last event, or counts them.
+    fn log_notes(&mut self, server: &Server, left: Option<(&Address, Leave<'_>)>)
         ensures moment { self.new.moment ≡ self.old.moment }
-        ensures tallies { LeadsTo self.old.tallies self.new.tallies }
+        ensures tallies { self.new.tallies
+            ≡ after_notes server.now.state.moment server.now.notes self.old.drivers
+            self.old.tallies }
+    {
+        for note in server.notes() {
+            self.log_note(server, note, left);
+        }
+    }
+
+    /// Logs a note of the server, or counts it.
+    #[tactic(auto, using(crate::proofs::Due::none_due))]
+    fn log_note(&mut self, server: &Server, note: &Note, left: Option<(&Address, Leave<'_>)>)
+        ensures { NoteMore server.now.state.moment server.now.notes note.now self.old self.new }
     {
         let name = |u: &UpsId| server.ups().name(*u);
         match note {
@@ -299,7 +305,7 @@ impl Journal {
                 // A driver may report all, and only then that it is right: it wasn't stale between.
                 let is_first = driver.turn(*state, server.current_moment());
                 if !is_first || !become_good(server.notes(), *u) {
-                    let kind = DATA[*state as usize];
+                    let kind = kind_of_data(*state);
                     self.log(Of::Ups(u.place), kind, name(u), &kind.row().0);
                 }
             }
@@ -330,8 +336,7 @@ impl Journal {
 
     /// Logs what a line of a client did, or counts it.
     fn log_deed(&mut self, deed: &Deed)
-        ensures moment { self.new.moment ≡ self.old.moment }
-        ensures tallies { LeadsTo self.old.tallies self.new.tallies }
+        ensures { DueMore (of_deed deed.now) self.old self.new }
     {
         let command = match deed.verb {
             Verb::Login => "LOGIN",
@@ -369,7 +374,9 @@ impl Journal {
 }
 
 /// Whether the data of the UPS become good by these notes.
-fn become_good(notes: &[Note], u: UpsId) -> bool {
+fn become_good(notes: &[Note], u: UpsId) -> bool
+    ensures { result ≡ list_any (makes_good u.place) notes.now }
+{
     let of = u.place;
     let is_good = |note: &Note| matches!(note, Note::Data(v, DataState::Good) if v.place == of);
     notes.iter().any(is_good)
@@ -410,7 +417,9 @@ fn reason_of(left: Option<(&Address, Leave<'_>)>) -> &'static str {
 
 /// What is logged of a refusal: it is a warning where a machine that is to learn of a shutdown, or
 /// to order one, has no right to, or names no UPS.
-fn kind_of_refusal(verb: Verb, word: ErrWord) -> Kind {
+fn kind_of_refusal(verb: Verb, word: ErrWord) -> Kind
+    ensures { result ≡ kind_of_refusal verb word }
+{
     let is_denied = matches!(word, ErrWord::AccessDenied | ErrWord::UnknownUps);
     match verb {
         Verb::Login | Verb::Primary | Verb::Fsd if is_denied => Kind::Denied,
@@ -419,12 +428,32 @@ fn kind_of_refusal(verb: Verb, word: ErrWord) -> Kind {
     }
 }
 
+/// What is logged of data of this state.
+fn kind_of_data(state: DataState) -> Kind
+    ensures { result ≡ kind_of_data state }
+{
+    match state {
+        DataState::Lost => Kind::Lost,
+        DataState::Awaited => Kind::Awaited,
+        DataState::Good => Kind::Good,
+        DataState::Stale => Kind::Stale,
+    }
+}
+
 /// What is logged of a status: it is an alarm on battery (OB) or with a low battery (LB).
-fn kind_of_status(status: &[u8]) -> Kind {
-    let has = |flag: &[u8]| status.split(|b| *b == b' ').any(|word| word == flag);
-    match (has(b"OB"), has(b"LB")) {
+fn kind_of_status(status: &[u8]) -> Kind
+    ensures { result ≡ kind_of_status status.now }
+{
+    match (has_word(status, b"OB"), has_word(status, b"LB")) {
         (true, true) => Kind::LowBattery,
         (false, false) => Kind::Status,
         _ => Kind::Alarm,
     }
+}
+
+/// Whether it is one of the words, with a blank between each two.
+fn has_word(text: &[u8], word: &[u8]) -> bool
+    ensures { result ≡ has_word word.now text.now }
+{
+    text.split(|b| *b == b' ').any(|one| one == word)
 }

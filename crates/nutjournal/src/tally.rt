@@ -1,7 +1,7 @@
 //! How many lines of a UPS, or of the clients of an address, are logged in a second. All more are
 //! counted.
 ghost use Rattle.std.specs.Prelude.{◌≡◌};
-ghost use Rattle.nutjournal.specs.Tally.{after_count, after_line, after_second, begins_minute, has_more, is_behind, is_logged, is_restless, limit_of, more_counted, reported};
+ghost use Rattle.nutjournal.specs.Tally.{after_count, after_line, after_second, begins_minute, has_more, is_behind, is_logged, is_restless, limit_of, more_counted, priority_of, reported};
 
 use crate::log_buffer::{CRITICAL, INFO, NOTICE, WARNING};
 use std::fmt::{self, Formatter, Write};
@@ -88,7 +88,8 @@ static KINDS: [(&str, u8, u64); KIND_COUNT] = [
 impl Kind {
     /// Its text, its priority, and how many lines in a second may be before it.
     pub fn row(self) -> (&'static str, u8, u64)
-        ensures { result.2 ≡ limit_of self }
+        ensures priority { result.1 ≡ priority_of self }
+        ensures limit { result.2 ≡ limit_of self }
     {
         KINDS[self as usize]
     }
