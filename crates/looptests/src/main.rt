@@ -123,7 +123,8 @@ fn print_answer(
 /// The turn's fault, and whether the server and its peers went on as if nothing had failed.
 fn print_fault(rt: &HostRuntime, ran: &Ran, as_ever: &Ran) -> Result<()> {
     let failed = ran.served.sockets.failures();
-    let same = other_calls(rt.alloc(), &ran.served.sockets)? == other_calls(rt.alloc(), &as_ever.served.sockets)?
+    let same = other_calls(rt.alloc(), &ran.served.sockets)?
+        == other_calls(rt.alloc(), &as_ever.served.sockets)?
         && ran.served.recorder.text() == as_ever.served.recorder.text();
     let number = ran.faults.first().map_or(0, |fault| fault.number());
     let same = yes(same && ran.faults.len() == 1);
