@@ -18,7 +18,7 @@ cat >bin/journalctl <<'SH'
 #!/bin/sh
 echo "$*" >>asked
 case "$*" in
-*-15min) printf 'upsd: %s\n' 'sent away: 2001:db8::9: 12' 'sent away: other addresses: 1' '192.0.2.1 gave way to 192.0.2.7 after 312 s of silence' 'su: mon@192.0.2.1 logged out: it gave way' 'su: status sent away: 5' ;;
+*-15min) printf 'upsd: %s\n' 'sent away: 2001:db8::9: 12' 'sent away: other addresses: 1' '192.0.2.1 gave way to 192.0.2.7 after 312 s of silence' 'su: mon@192.0.2.1 logged out: it gave way' 'su: status sent away: 5' 'su: lines of the driver refused: 3, the last one: bad words' 'b: lines of the driver refused: 2, the last one: too long' 'su: lines of the driver refused: 4, the last one: bad words' ;;
 *-g*) echo "line of $INVOCATION_ID" ;;
 esac
 SH
