@@ -101,7 +101,8 @@ impl<S: Sockets, R: Record> Loop<S, R> {
         }
         let mut bytes = [0; HELD_LIMIT];
         let into = &mut bytes[..standing.room];
-        match self.sockets.read(Peer::Client(c), standing.offered > 0, into) {
+        let is_owed = standing.offered > 0;
+        match self.sockets.read(Peer::Client(c), is_owed, into) {
             Ok(Got::Bytes(n)) => {
                 let _ = self.comes(Peer::Client(c), &into[..n]);
             }
