@@ -132,7 +132,7 @@ impl Sockets for Scripted {
         self.keep(Call::Refused);
     }
 
-    fn read(&mut self, _server: &Server, p: Peer, into: &mut [u8]) -> Result<Got, Broken> {
+    fn read(&mut self, p: Peer, _is_owed: bool, into: &mut [u8]) -> Result<Got, Broken> {
         match self.next() {
             Act::Gives(bytes) => {
                 let n = bytes.as_slice().len();

@@ -148,6 +148,11 @@ pub noted_reply : (s : ServerState) (c : ℕ) (line : List ℕ) (r : Reply)
     with_next s c before
 noted_reply s c line r read x before notes next found is reads noted = grind arith
 
+-- of an empty line nothing is
+pub noted_empty : (s : ServerState) (c : ℕ) (x : SessionState) (notes : List Note) → session c s ≡ Some x →
+    next_line_for s c ≡ Some [] → with_next s c notes ≡ notes
+noted_empty s c x notes found next = rw (next, found) refl
+
 -- where the client isn't open, nothing is
 pub fed_nothing : (s : ServerState) (c : ℕ) (piece : List ℕ) → session c s ≡ None
     → notes_of_lines (executions_by s (Feed c piece) None) ≡ []

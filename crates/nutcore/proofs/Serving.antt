@@ -196,6 +196,21 @@ line_is s v c i line reply clients x y h told lists is stands gives =
     set_is v c i y stands.at (ap (λ (z : SessionState). z.id) same ∙
     session_after_id s c line x found) ∙ done ∙ sym (after_line_is s c line x found h)
 
+-- an empty line asks for nothing: it is taken, and no more
+pub empty_line : (o : Option (List ℕ)) (end : ℕ) → option_map length o ≡ Some end → end ≡ 0 → o ≡ Some []
+empty_line None end h zero = cc h
+empty_line (Some []) end h zero = refl
+empty_line (Some (b ∷ bs)) end h zero = grind arith
+
+pub after_empty : (s v : ServerState) (c i : ℕ) (x y : SessionState) → v ≡ s → StandsAt v c i x →
+    next_line_for s c ≡ Some [] → y ≡ answered [] [] x →
+    let code : ServerState = record v { sessions = set v.sessions i y } in code ≡ after_line s c
+after_empty s v c i x y is here next gives =
+    let found : session c s ≡ Some x = ap (session c) (sym is) ∙ here.found in
+    set_is v c i y here.at (ap (λ (z : SessionState). z.id) gives ∙ find_id c s.sessions x found)
+    ∙ ap (λ (z : ServerState). with_session z y) is ∙ ap (with_session s) gives ∙
+    sym (after_line_is s c [] x found next)
+
 pub at_line : (s : ServerState) (c i : ℕ) (line : List ℕ) → IsAt c i s.sessions →
     next_line_for s c ≡ Some line → IsAt c i (after_line s c).sessions
 at_line s c i line h next =

@@ -5,6 +5,7 @@ pub mod SocketToSocket
 pub mod Fairness
 pub mod InTime
 pub mod Clock
+pub mod Work
 pub mod Answering
 pub mod Highest
 pub mod Hearing

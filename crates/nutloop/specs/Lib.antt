@@ -12,6 +12,7 @@ pub mod SocketToSocket
 pub mod Fairness
 pub mod InTime
 pub mod Clock
+pub mod Work
 pub mod Tokens
 pub mod Highest
 pub mod Places

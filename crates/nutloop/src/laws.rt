@@ -5,14 +5,15 @@ ghost use Rattle.nutloop.specs.InTime.{WhoeverAsksLearnsInTime};
 ghost use Rattle.nutloop.specs.Moved.{EveryByteIsMovedOnce};
 ghost use Rattle.nutloop.specs.Numbers.{Numbers};
 ghost use Rattle.nutloop.specs.SocketToSocket.{WhatASocketGaveIsAnswered, ADriverIsServedByItsSocket};
+ghost use Rattle.nutloop.specs.Work.{TheWorkOfTurnsIsBounded};
 
 use crate::Sockets;
 use nutcore::Record;
 use nutcore::laws::{
-    a_line_is_answered_at_once, each_answer_is_timely, every_server_is_sound,
-    what_a_driver_reported_is_executed, what_a_driver_was_sent_and_is_owed, what_never_goes_back,
-    what_was_asked_is_executed_or_held, what_was_sent_and_is_owed_is_the_answers,
-    whatever_is_answered_is_fresh,
+    a_line_is_answered_at_once, each_answer_is_timely, each_event_is_bounded,
+    every_server_is_sound, what_a_driver_reported_is_executed, what_a_driver_was_sent_and_is_owed,
+    what_never_goes_back, what_was_asked_is_executed_or_held,
+    what_was_sent_and_is_owed_is_the_answers, whatever_is_answered_is_fresh,
 };
 
 /// Over any turns of `serve` whose sockets report their calls, what each client and each driver
@@ -70,6 +71,16 @@ pub fn no_answer_is_older_by_the_clock<S: Sockets, R: Record>()
     ensures { NoAnswerIsOlderByTheClock S.told R.holds }
 {
     whatever_is_answered_is_fresh();
+}
+
+/// So many turns of serving execute at most 2,048 lines each, and place at most 8,192 bytes. From a
+/// look up to the next one they are at most 208, a tick, and as many ids as were due.
+pub fn the_work_of_turns_is_bounded<S: Sockets, R: Record>()
+    ensures { TheWorkOfTurnsIsBounded S.told R.holds }
+{
+    each_event_is_bounded();
+    every_server_is_sound();
+    everybody_has_a_turn::<S, R>();
 }
 
 /// The bytes of a driver's read and of an id, the turns of a pass, between two looks and of

@@ -391,7 +391,7 @@ impl<'a, R: Net + Clock, F: Read + Drop> Sockets for MioSockets<'a, R, F> {
         self.send_away();
     }
 
-    fn read(&mut self, server: &Server, p: Peer, into: &mut [u8]) -> Result<Got, Broken>
+    fn read(&mut self, p: Peer, is_owed: bool, into: &mut [u8]) -> Result<Got, Broken>
         ensures bound { AtMost result into.new }
         ensures told { ReportsCall (told_of self.old) (read_call p into.new) result
             (told_of self.new) }
@@ -401,7 +401,6 @@ impl<'a, R: Net + Clock, F: Read + Drop> Sockets for MioSockets<'a, R, F> {
     {
         let answer = match p {
             Peer::Client(c) => {
-                let is_owed = server.offered(c).unwrap_or(0) > 0;
                 let place = place_of(self.clients.as_slice(), self.here, c);
                 match self.clients.get_mut(place) {
                     Some(slot) => match slot {
@@ -413,7 +412,7 @@ impl<'a, R: Net + Clock, F: Read + Drop> Sockets for MioSockets<'a, R, F> {
             }
             Peer::Driver(u) => match self.drivers.get_mut(u.place as usize) {
                 Some(driver) => match &mut driver.socket {
-                    Some(socket) => socket.read(into, false),
+                    Some(socket) => socket.read(into, is_owed),
                     None => Ok(Got::End),
                 },
                 None => Ok(Got::End),

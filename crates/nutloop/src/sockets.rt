@@ -93,8 +93,8 @@ pub trait Sockets {
         ensures { Answers (told self.old) (Refused ∷ []) (told self.new) };
 
     /// Asks a peer for as many bytes as the buffer has room for, and reads what it gives into the
-    /// front. The end of a client that is owed something comes later.
-    fn read(&mut self, server: &Server, p: Peer, into: &mut [u8]) -> Result<Got, Broken>
+    /// front. While it is owed something its end comes later.
+    fn read(&mut self, p: Peer, is_owed: bool, into: &mut [u8]) -> Result<Got, Broken>
         ensures bound { AtMost result into.new }
         ensures told { ReportsCall (told self.old) (read_call p into.new) result (told self.new) };
 

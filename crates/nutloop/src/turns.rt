@@ -101,7 +101,8 @@ impl<S: Sockets, R: Record> Loop<S, R> {
         }
         let mut bytes = [0; HELD_LIMIT];
         let into = &mut bytes[..standing.room];
-        match self.sockets.read(&self.server, Peer::Client(c), into) {
+        let is_owed = standing.offered > 0;
+        match self.sockets.read(Peer::Client(c), is_owed, into) {
             Ok(Got::Bytes(n)) => {
                 let _ = self.comes(Peer::Client(c), &into[..n]);
             }
@@ -118,7 +119,7 @@ impl<S: Sockets, R: Record> Loop<S, R> {
             return;
         }
         let mut bytes = [0; DRIVER_READ_LIMIT];
-        match self.sockets.read(&self.server, Peer::Driver(u), &mut bytes) {
+        match self.sockets.read(Peer::Driver(u), false, &mut bytes) {
             Ok(Got::Bytes(n)) => {
                 let outcome = self.comes(Peer::Driver(u), &bytes[..n]);
                 if loses_driver(outcome) {

@@ -43,6 +43,12 @@ impl Server {
         ensures noted { OnOk result (self.new.notes ≡ with_next self.old.state c self.old.notes) }
         ensures unnoted { OnErr result (self.new.notes ≡ self.old.notes) }
     {
+        if end == 0 {
+            // Nothing is asked.
+            let session = &mut self.sessions[place];
+            session.answer(Reply::One(b"", Change::Nothing), end, &mut self.scratch);
+            return Ok(());
+        }
         let view = View {
             moment: self.moment,
             max_age: self.max_age,
