@@ -44,7 +44,6 @@ MESSAGES = [
     ("crates/nutjournal/src/tally.rt", r'^    \("(d(?:ata|river) .*)", [A-Z]+, [A-Z_]+\),', r"su: \1"),
     (JOURNAL, r'^    \("([a-z].*)", (?:true|false)\),', r"\1: N"),
     ("crates/upsd/src/reading.rt", r'"upsd: \{path\}:\{number\}: (.*)"\)', r"PATH:LINE: \1"),
-    (JOURNAL, r'format_args!\("(lines .*): \{count\}, the last one"\);', r"su: \1: N, the last one: REASON"),
     (JOURNAL, r'format_args!\("\{who\} (logged .*)"\)', r"su: mon@192.0.2.1 \1"),
     (JOURNAL, r'format_args!\("\{who\} (logged .*: )\{\}"', r"su: mon@192.0.2.1 \1REASON"),
     (JOURNAL, r'format_args!\("\{who\} (ordered) \{command\}\{space\}\{name\}(.*)"\)', r"su: mon@192.0.2.1 \1 COMMAND\2"),
@@ -52,7 +51,7 @@ MESSAGES = [
     (JOURNAL, r'format_args!\("\{who\} (was .*) \{command\}.*"\);', r"su: mon@192.0.2.1 \1 COMMAND: WORD"),
 ]
 FORMS = {"0": "PATH", "1": "LINE", "number": "N", "count": "N", "error": "ERROR", "status": "STATUS", "more": "N KIND, ..", "state": "DATA", "address": "192.0.2.1",
-         "to": "198.51.100.1", "seconds": "N", "taken": "N", "most": "N", "SESSION_LIMIT": "64"}  # fmt: skip
+         "to": "198.51.100.1", "why": "REASON", "shown": "BYTES", "seconds": "N", "taken": "N", "most": "N", "SESSION_LIMIT": "64"}  # fmt: skip
 FAULTS = [("crates/nutrequest/src/faults.rt", r'ClientFault::.* => push\(line, b"(.*)"\),', r"\1")]
 
 

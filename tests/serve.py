@@ -390,6 +390,26 @@ def refused_lines_of_a_driver_are_logged_with_their_number():
         assert "refused: 3, the last one: bad number\n" in server.journal(), server.journal()
 
 
+def a_refused_line_that_speaks_of_the_status_is_a_warning_with_its_bytes():
+    """Of the second UPS's driver. A long one is cut after 60 bytes."""
+    drivers = [Driver(path(f"{name}.sock")) for name in "ab"]
+    both = file("both.conf", "".join(f"[{name}]\nsocket = {path(name)}.sock\n" for name in "ab"))
+    with begun(both, "--users", path("users"), "--priorities") as server:
+        for driver in drivers:
+            driver.accept(TWO)
+        assert comes(lambda: server.journal().count(": data good\n") == 2), server.journal()
+        begin = len(server.journal())
+        for line, shown in [(b'SETINFO ups.status "OB "LB"', 'SETINFO ups.status \\"OB \\"LB\\"'),
+                            (b'SETINFO ups.status ALARM OB\a' + b"x" * 60, "SETINFO ups.status ALARM OB\\x07" + "x" * 32)]:
+            drivers[1].send(b'NOPE ups.statuses\n' + line + b"\n")
+            line = f"<4>upsd: b: line of the driver refused (malformed line): {shown}\n"
+            assert comes(lambda: line in server.journal()), (line, server.journal())  # noqa: B023
+        assert server.journal()[begin:].count("<4>") == 2, server.journal()
+        assert server.client().ask(b"GET VAR b ups.status\n") == b'VAR b ups.status "OL"\n'
+    for driver in drivers:
+        driver.close()
+
+
 def drivers_are_connected_to_before_it_says_that_it_listens():
     drivers = [Driver(path(f"d{number}.sock")) for number in range(32)]
     ups = file("most.conf", "".join(f"[d{number}]\nsocket = {driver.path}\n" for number, driver in enumerate(drivers)))

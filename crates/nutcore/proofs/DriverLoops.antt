@@ -26,7 +26,7 @@ use Rattle.nutcore.specs.Reports.{with_end, is_unawaited, after_ends}
 use Rattle.nutcore.specs.Ups.{UpsState, after_loss, after_text, after_texts, with_unfinished, as_far}
 use Rattle.nutcore.specs.Ups.{is_refused, with_faulty_line}
 use Rattle.nutcore.specs.Ups.{ups_after_text}
-use Rattle.nutcore.specs.Notes.{fault_of, status_note, data_note, status_of, data_state_of}
+use Rattle.nutcore.specs.Notes.{fault_of, shown_of, status_note, data_note, status_of, data_state_of}
 use Rattle.nutcore.specs.Notes.{line_notes, texts_notes, loss_notes, is_lost_by, text_notes}
 use Rattle.nutcore.specs.Step.{refused_after}
 use Rattle.nutcore.specs.Calls.{done}
@@ -101,9 +101,9 @@ pub does_line : (a m : ℕ) (u : UpsId) (line : List ℕ) (x : UpsState) (t : Tr
     t' ≡ with_end u.place (reported_end o) t
     → y ≡ cond b (with_faulty_line z) z → length n ≤ NOTE_LIMIT → n1 ≡
     with_note (status_note u (status_of x) (status_of z)) n
-    → n2 ≡ with_note (cond b (Some (LineRefused u (fault_of o))) None) n1 → n3 ≡
+    → n2 ≡ with_note (cond b (Some (LineRefused u (fault_of o) (shown_of line))) None) n1 → n3 ≡
     with_note (data_note u (data_state_of a m x) (data_state_of a m y)) n2
-    → DoesLine a m u line x t n y t' n3
+    → DoesLine a m u line x t n (with_unfinished [] y) t' n3
 does_line a m u line x t n o z b y t' n1 n2 n3 applied refused settled left room one two three =
     let v : UpsState = record x { report = z.report } in
     let read : reported_end o ≡ end_in line =
@@ -113,32 +113,25 @@ does_line a m u line x t n o z b y t' n1 n2 n3 applied refused settled left room
     let by : b ≡ is_refused unawaited o = refused ∙
     ap (λ (e : Option OrderEnd). is_refused (is_unawaited u.place e t) o) read in
     let after : after_text m unawaited x line ≡ cond b (with_faulty_line v) v = rw (applied.done, by) refl in
-    let is : y ≡ with_unfinished [] (after_text m unawaited x line) = left ∙
-    ap (λ (q : UpsState). cond b (with_faulty_line q) q) applied.leaves ∙ bare b v ∙
-    ap (with_unfinished []) (sym after) in
+    let is : y ≡ after_text m unawaited x line = left ∙
+    ap (λ (q : UpsState). cond b (with_faulty_line q) q) applied.leaves ∙ sym after in
     let status : status_of (after_text m unawaited x line) ≡ status_of z =
     rw after (cond_both b (with_faulty_line v) v (λ (q : UpsState). status_of q ≡ status_of z)
     (λ e. refl) (λ e. refl)) in
     let s1 : Option Note = status_note u (status_of x) (status_of z) in
-    let s2 : Option Note = cond b (Some (LineRefused u (fault_of o))) None in
+    let s2 : Option Note = cond b (Some (LineRefused u (fault_of o) (shown_of line))) None in
     let s3 : Option Note = data_note u (data_state_of a m x) (data_state_of a m y) in
     let datum : data_state_of a m (after_text m unawaited x line) ≡ data_state_of a m y =
     sym (ap (data_state_of a m) is) in
     let notes : line_notes a m u unawaited x line ≡
     cons_option s1 (cons_option s2 (cons_option s3 [])) = rw (status, datum, applied.done, ← by) refl in
     record {
-      leaves = is;
+      leaves = ap (with_unfinished []) is;
       settles = settled ∙ ap (λ (e : Option OrderEnd). with_end u.place e t) read;
       notes_it = three ∙ three_noted n n1 n2 s1 s2 s3 room one two ∙
           ap (λ (more : List Note). take NOTE_LIMIT (n ++ more)) (sym notes);
     }
   where
-    bare : (b : Bool) (z : UpsState) →
-        cond b (with_faulty_line (with_unfinished [] z)) (with_unfinished [] z) ≡
-        with_unfinished [] (cond b (with_faulty_line z) z)
-    bare true z = refl
-    bare false z = refl
-
     onto : (o : Option Note) (xs : List Note) → cons_option o [] ++ xs ≡ cons_option o xs
     onto None xs = refl
     onto (Some note) xs = refl

@@ -58,7 +58,8 @@ texts_few a m u t (line ∷ lines) x =
       arith,
       length-append (line_notes a m u b x line) (texts_notes a m u next lines y),
       three_at_most (status_note u (status_of x) (status_of y))
-          (refusal_note u b (after_line m x.report line).1) (data_note u (data_state_of a m x) (data_state_of a m y)),
+          (refusal_note u b (after_line m x.report line).1 line)
+          (data_note u (data_state_of a m x) (data_state_of a m y)),
       texts_few a m u next lines y,
     )
 

@@ -5,6 +5,7 @@ use Rattle.std.proofs.Common.{sym, ap, ap₂, subst, cond}
 use Rattle.std.specs.List.{filter_map, cons_option}
 use Rattle.std.specs.Option.{option_and_then}
 use Rattle.std.specs.Str.{bytes_eq}
+use Rattle.arrayvec.specs.declared.array_vec.ArrayVec.{ArrayVec}
 use Rattle.nutdriver.specs.declared.fault.DriverFault.{DriverFault}
 use Rattle.nutusers.specs.UpsList.{id_at}
 use Rattle.nutcommand.specs.declared.command.Command.{Command}
@@ -21,6 +22,7 @@ use Rattle.nutcore.specs.declared.note.DataState.TheVariants as states
 use Rattle.nutcore.specs.declared.note.Note.{Note}
 use Rattle.nutcore.specs.declared.note.Note.TheVariants.{Data, StatusChanged, LineRefused, LoggedIn, LoggedOut, Did}
 use Rattle.nutcore.specs.declared.note.Deed.{Deed}
+use Rattle.nutcore.specs.declared.note.TheConstants.{SHOWN_LIMIT}
 use Rattle.nutcore.specs.History.{Execution, of_line, of_notice, client_of}
 use Rattle.nutcore.specs.Reply.{refusal_by, change_by}
 use Rattle.nutwords.specs.WholeLines.{whole_lines}
@@ -28,7 +30,8 @@ use Rattle.nutdriver.specs.declared.report.LineOutcome.{LineOutcome}
 use Rattle.nutdriver.specs.Report.{after_line, end_in}
 use Rattle.nutcore.specs.Reports.{with_end, is_unawaited}
 use Rattle.nutcore.specs.Ups.{is_refused, as_far, after_text, after_texts}
-use Rattle.nutcore.specs.Notes.{who_of, logout_of, deed_of, note_read, note_of, data_state_of, status_of, fault_of}
+use Rattle.nutcore.specs.Notes.{who_of, logout_of, deed_of, note_read, note_of, data_state_of}
+use Rattle.nutcore.specs.Notes.{status_of, fault_of, shown_of}
 use Rattle.nutcore.specs.Notes.{refusal_note, status_note, data_note, line_notes, texts_notes, loss_notes, is_lost_by}
 use Rattle.nutcore.specs.Notes.{text_notes, connect_notes, bytes_notes, down_notes, of_ups_notes, tick_note, tick_notes}
 use Rattle.nutcore.specs.NotedRuns.{Leads}
@@ -60,16 +63,18 @@ noted_or_same u was is = inr (refl, λ e. cc e)
 pub record IsBlind {X : Type 0} (f : Note → Option X) (v : UpsId) : Type 0 where
   pub state : (state : DataState) → f (Data v state) ≡ None
   pub status : (status : Option (List ℕ)) → f (StatusChanged v status) ≡ None
-  pub refused : (fault : Option DriverFault) → f (LineRefused v fault) ≡ None
+  pub refused : (fault : Option DriverFault) (shown : Option (ArrayVec ℕ SHOWN_LIMIT (Unit {0}))) →
+      f (LineRefused v fault shown) ≡ None
 
 module _ {X : Type 0} (f : Note → Option X) (v : UpsId) (blind : IsBlind f v) where
   pub blind_data : (was is : DataState) → option_and_then f (data_note v was is) ≡ None
   blind_data was is = elim (noted_or_same v was is)
       [ inl same ↦ rw same.0 refl | inr told ↦ rw told.0 (blind.state is) ]
 
-  pub blind_refused : (b : Bool) (o : LineOutcome) → option_and_then f (refusal_note v b o) ≡ None
-  blind_refused b o = cond_both (is_refused b o) (Some (LineRefused v (fault_of o))) None
-      (λ n. option_and_then f n ≡ None) (λ e. blind.refused (fault_of o)) (λ e. refl)
+  pub blind_refused : (b : Bool) (o : LineOutcome) (line : List ℕ) →
+      option_and_then f (refusal_note v b o line) ≡ None
+  blind_refused b o line = cond_both (is_refused b o) (Some (LineRefused v (fault_of o) (shown_of line))) None
+      (λ n. option_and_then f n ≡ None) (λ e. blind.refused (fault_of o) (shown_of line)) (λ e. refl)
 
   pub blind_status : (was is : Option (List ℕ)) → option_and_then f (status_note v was is) ≡ None
   blind_status None None = refl
@@ -84,7 +89,8 @@ module _ {X : Type 0} (f : Note → Option X) (v : UpsId) (blind : IsBlind f v) 
   blind_line a m b x line =
       let y : UpsState = after_text m b x line in
       skip f (status_note v (status_of x) (status_of y)) _ (blind_status (status_of x) (status_of y))
-      ∙ skip f (refusal_note v b (after_line m x.report line).1) _ (blind_refused b (after_line m x.report line).1)
+      ∙ skip f (refusal_note v b (after_line m x.report line).1 line) _
+      (blind_refused b (after_line m x.report line).1 line)
       ∙ skip f (data_note v (data_state_of a m x) (data_state_of a m y)) []
       (blind_data (data_state_of a m x) (data_state_of a m y))
 

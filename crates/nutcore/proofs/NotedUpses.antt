@@ -39,7 +39,7 @@ use Rattle.nutcore.specs.DriverHistory.{heard_at, heard_in_event}
 use Rattle.nutcore.specs.DriverRuns.{report_of}
 use Rattle.nutcore.specs.Sound.{IsSoundUps, IsSound}
 use Rattle.nutcore.specs.Notes.{who_of, logout_of, note_of, notes_of_lines}
-use Rattle.nutcore.specs.Notes.{data_state_of, status_of, fault_of, refusal_note, status_note, data_note}
+use Rattle.nutcore.specs.Notes.{data_state_of, status_of, fault_of, refusal_note, shown_of, status_note, data_note}
 use Rattle.nutcore.specs.Notes.{line_notes, texts_notes, loss_notes, is_lost_by, text_notes, connect_notes, bytes_notes}
 use Rattle.nutcore.specs.Notes.{down_notes, of_ups_notes, tick_note, tick_notes, all_notes}
 use Rattle.nutcore.specs.NotedRuns.{Leads, data_in, status_in, fault_in, faults_among}
@@ -318,8 +318,9 @@ module _ (u : UpsId) where
     | inr differs ↦ rw (differs.0, eq-eqb u.place u.place refl) (differs.1, refl)
   ]
 
-  no_data_refused : (b : Bool) (o : LineOutcome) → option_and_then (data_in u) (refusal_note u b o) ≡ None
-  no_data_refused b o = cond_both (is_refused b o) (Some (LineRefused u (fault_of o))) None
+  no_data_refused : (b : Bool) (o : LineOutcome) (line : List ℕ) →
+      option_and_then (data_in u) (refusal_note u b o line) ≡ None
+  no_data_refused b o line = cond_both (is_refused b o) (Some (LineRefused u (fault_of o) (shown_of line))) None
       (λ n. option_and_then (data_in u) n ≡ None) (λ e. refl) (λ e. refl)
 
   no_data_status : (was is : Option (List ℕ)) → option_and_then (data_in u) (status_note u was is) ≡ None
@@ -342,9 +343,9 @@ module _ (u : UpsId) where
         rw (
           skip (data_in u) (status_note u (status_of x) (status_of y)) _
               (no_data_status (status_of x) (status_of y)),
-          skip (data_in u) (refusal_note u b (after_line m x.report line).1)
+          skip (data_in u) (refusal_note u b (after_line m x.report line).1 line)
               (cons_option (data_note u (data_state_of a m x) (data_state_of a m y)) [])
-              (no_data_refused b (after_line m x.report line).1),
+              (no_data_refused b (after_line m x.report line).1 line),
         )
         (noted (data_state_of a m x) (data_state_of a m y));
     loss = λ a m x is.
@@ -356,7 +357,12 @@ module _ (u : UpsId) where
     connects = λ a m x h gone. rw (is_lost a m x gone, eq-eqb u.place u.place refl)
         (λ e. cc e, connected_awaits a m x);
     ticks = λ a was now x. rw (ticked_data a now x) (noted (data_state_of a was x) (data_state_of a now x));
-    others = λ v other. record { state = λ state. rw other refl; status = λ status. refl; refused = λ fault. refl };
+    others = λ v other. record {
+      state = λ state. rw other refl;
+      status =
+          λ status. refl;
+      refused = λ fault shown. refl;
+    };
     clients = record { into = λ v who. refl; out = λ v who. refl; did = λ deed. refl };
     masked = λ a m x. refl;
     beside = λ a m x bytes. refl;
@@ -381,8 +387,9 @@ module _ (u : UpsId) where
         (λ e. never_both (bytes_eq was is) ((bytes_eq-Decides was is).1 (sym (same_Some is was e))) k, refl)
   ]
 
-  no_status_refused : (b : Bool) (o : LineOutcome) → option_and_then (status_in u) (refusal_note u b o) ≡ None
-  no_status_refused b o = cond_both (is_refused b o) (Some (LineRefused u (fault_of o))) None
+  no_status_refused : (b : Bool) (o : LineOutcome) (line : List ℕ) →
+      option_and_then (status_in u) (refusal_note u b o line) ≡ None
+  no_status_refused b o line = cond_both (is_refused b o) (Some (LineRefused u (fault_of o) (shown_of line))) None
       (λ n. option_and_then (status_in u) n ≡ None) (λ e. refl) (λ e. refl)
 
   no_status_data : (was is : DataState) → option_and_then (status_in u) (data_note u was is) ≡ None
@@ -407,8 +414,8 @@ module _ (u : UpsId) where
     line = λ a m b x line.
         let y : UpsState = after_text m b x line in
         rw (alone (status_note u (status_of x) (status_of y)) _
-        (skip (status_in u) (refusal_note u b (after_line m x.report line).1) _
-        (no_status_refused b (after_line m x.report line).1) ∙
+        (skip (status_in u) (refusal_note u b (after_line m x.report line).1 line) _
+        (no_status_refused b (after_line m x.report line).1 line) ∙
         skip (status_in u) (data_note u (data_state_of a m x) (data_state_of a m y)) []
         (no_status_data (data_state_of a m x) (data_state_of a m y))))
         (changed (status_of x) (status_of y));
@@ -417,7 +424,12 @@ module _ (u : UpsId) where
     ticks = λ a was now x. rw (skip (status_in u)
         (data_note u (data_state_of a was x) (data_state_of a now x)) []
         (no_status_data (data_state_of a was x) (data_state_of a now x))) (ticked_status a now x);
-    others = λ v other. record { state = λ state. refl; status = λ status. rw other refl; refused = λ fault. refl };
+    others = λ v other. record {
+      state = λ state. refl;
+      status =
+          λ status. rw other refl;
+      refused = λ fault shown. refl;
+    };
     clients = record { into = λ v who. refl; out = λ v who. refl; did = λ deed. refl };
     masked = λ a m x. refl;
     beside = λ a m x bytes. refl;
@@ -433,10 +445,10 @@ module _ (u : UpsId) where
       option_and_then (fault_in u) (status_note v was is) ≡ None
   fault_status v was is = grind arith
 
-  refused : (b : Bool) (o : LineOutcome) →
-      filter_map (fault_in u) (cons_option (refusal_note u b o) []) ≡
+  refused : (b : Bool) (o : LineOutcome) (line : List ℕ) →
+      filter_map (fault_in u) (cons_option (refusal_note u b o line) []) ≡
       cons_option (cond (is_refused b o) (Some (fault_of o)) None) []
-  refused b o = elim (cases_Bool (is_refused b o))
+  refused b o line = elim (cases_Bool (is_refused b o))
       [ inl k ↦ rw (k, eq-eqb u.place u.place refl) refl | inr k ↦ rw k refl ]
 
   then_none : (o : Option Note) (notes : List Note) → filter_map (fault_in u) notes ≡ [] →
@@ -451,10 +463,10 @@ module _ (u : UpsId) where
       let r = after_line m x.report line in
       let y : UpsState = after_text m b x line in
       skip (fault_in u) (status_note u (status_of x) (status_of y)) _ (fault_status u (status_of x) (status_of y))
-      ∙ then_none (refusal_note u b r.1) _
+      ∙ then_none (refusal_note u b r.1 line) _
       (skip (fault_in u) (data_note u (data_state_of a m x) (data_state_of a m y)) []
       (fault_data u (data_state_of a m x) (data_state_of a m y)))
-      ∙ refused b r.1
+      ∙ refused b r.1 line
 
   cons_first : {X : Type 0} (o : Option X) (xs : List X) → cons_option o [] ++ xs ≡ cons_option o xs
   cons_first None xs = refl
@@ -491,7 +503,12 @@ module _ (u : UpsId) where
       ∙ append-nil (faults_among x.report (heard_at m u.place t lines))
 
   blind_fault : (v : UpsId) → eqb v.place u.place ≡ false → IsBlind (fault_in u) v
-  blind_fault v other = record { state = λ state. refl; status = λ status. refl; refused = λ fault. rw other refl }
+  blind_fault v other = record {
+    state = λ state. refl;
+    status = λ status. refl;
+    refused =
+        λ fault shown. rw other refl;
+  }
 
   -- nor is a line refused where a driver connects or is lost, or where the clock goes on
   no_line : (v : UpsId) (s : ServerState) (notes : UpsState → List Note) →

@@ -71,7 +71,7 @@ faults_along u s (e ∷ es) (o ∷ os) =
 
 -- and what a note says of one.
 abbrev pub fault_in : UpsId → Note → Option (Option DriverFault)
-fault_in u (notes.LineRefused v fault) = if v.place == u.place then Some fault else None
+fault_in u (notes.LineRefused v fault shown) = if v.place == u.place then Some fault else None
 fault_in u _ = None
 
 -- The UPS to which a client is logged in.

@@ -1,10 +1,11 @@
 -- What is noted of an event, for the journal: names, and never a value or a password.
 use Rattle.std.specs.Prelude.{◌≡◌, ◌≤◌, ℕ, suc, Bool, true, false, List, [], ◌∷◌, ◌++◌, length}
 use Rattle.std.specs.Prelude.{Option, Some, None, Result, Ok, codes, take, max}
-use Rattle.std.specs.Prelude.{if◌then◌else◌}
-use Rattle.std.specs.List.{filter_map, cons_option}
+use Rattle.std.specs.Prelude.{if◌then◌else◌, ◌||◌, ◌==◌, nat_le}
+use Rattle.std.specs.List.{filter_map, cons_option, list_any, slice_split}
 use Rattle.std.specs.Option.{option_map, option_map_or, option_and_then}
 use Rattle.std.specs.Str.{bytes_eq}
+use Rattle.arrayvec.specs.declared.array_vec.ArrayVec.{ArrayVec}
 use Rattle.nutdriver.specs.LastLine.{value_of}
 use Rattle.nutusers.specs.declared.ups_list.UpsId.{UpsId}
 use Rattle.nutcommand.specs.declared.command.Command.{Command}
@@ -21,7 +22,7 @@ use Rattle.nutcore.specs.declared.note.Who.{Who}
 use Rattle.nutcore.specs.declared.note.Verb.{Verb}
 use Rattle.nutcore.specs.declared.note.Verb.TheVariants as verbs
 use Rattle.nutcore.specs.declared.TheConstants.{DRIVER_READ_LIMIT}
-use Rattle.nutcore.specs.declared.note.TheConstants.{NOTE_LIMIT}
+use Rattle.nutcore.specs.declared.note.TheConstants.{NOTE_LIMIT, SHOWN_LIMIT}
 use Rattle.nutcore.specs.declared.event.Event.{Event}
 use Rattle.nutcore.specs.declared.event.Event.TheVariants as event
 use Rattle.nutcore.specs.declared.event.Outcome.{Outcome}
@@ -139,22 +140,31 @@ status_note u (Some was) (Some is) =
 status_note u _ is = Some (note_kinds.StatusChanged u is)
 
 -- and that a line of its driver is refused, for what: nothing where it reports on an order that
--- isn't awaited.
+-- isn't awaited. Of a line that speaks of ups.status, or of an ALARM, its beginning is noted.
+abbrev pub has_word : List ℕ → List ℕ → Bool
+has_word word text =
+    list_any (λ one. bytes_eq one word) (slice_split (λ b. nat_le b 32 || b == 34) text)
+
+abbrev pub shown_of : List ℕ → Option (ArrayVec ℕ SHOWN_LIMIT (Unit {0}))
+shown_of line =
+    if has_word (codes "ups.status") line || has_word (codes "ALARM") line
+    then Some (record { items = take SHOWN_LIMIT line }) else None
+
 abbrev pub fault_of : LineOutcome → Option DriverFault
 fault_of (Refused fault) = Some fault
 fault_of _ = None
 
-abbrev pub refusal_note : UpsId → Bool → LineOutcome → Option Note
-refusal_note u unawaited outcome =
-    if is_refused unawaited outcome then Some (note_kinds.LineRefused u (fault_of outcome))
-    else None
+abbrev pub refusal_note : UpsId → Bool → LineOutcome → List ℕ → Option Note
+refusal_note u unawaited outcome line =
+    if is_refused unawaited outcome
+    then Some (note_kinds.LineRefused u (fault_of outcome) (shown_of line)) else None
 
 -- What is noted of a whole line of its driver.
 abbrev pub line_notes : ℕ → ℕ → UpsId → Bool → UpsState → List ℕ → List Note
 line_notes max_age moment u unawaited x line =
     let y = after_text moment unawaited x line in
     cons_option (status_note u (status_of x) (status_of y))
-    (cons_option (refusal_note u unawaited (after_line moment x.report line).1)
+    (cons_option (refusal_note u unawaited (after_line moment x.report line).1 line)
     (cons_option
     (data_note u (data_state_of max_age moment x) (data_state_of max_age moment y)) []))
 

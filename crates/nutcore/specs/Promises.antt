@@ -79,7 +79,7 @@ pub record DoesLine (max_age moment : ℕ) (u : UpsId) (line : List ℕ) (old : 
 pub record IsApplied (moment : ℕ) (line : List ℕ) (old : UpsState) (outcome : LineOutcome)
     (new : UpsState) : Type 0 where
   pub done : after_line moment old.report line ≡ (new.report, outcome)
-  pub leaves : new ≡ record (with_unfinished [] old) { report = new.report }
+  pub leaves : new ≡ record old { report = new.report }
 
 abbrev pub with_hearing : ℕ → UpsState → UpsState
 with_hearing moment x = record x { report = record x.report { heard = moment } }

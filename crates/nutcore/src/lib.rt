@@ -17,7 +17,7 @@ mod ups;
 pub use cost::Cost;
 pub use event::{ClientId, Event, Fault, Outcome, Peer};
 pub use max_age::{MAX_AGE_DEFAULT, MAX_AGE_LEAST, MAX_AGE_MOST, MaxAge};
-pub use note::{DataState, Deed, NOTE_LIMIT, Note, Verb, Who};
+pub use note::{DataState, Deed, NOTE_LIMIT, Note, SHOWN_LIMIT, Verb, Who, has_word};
 pub use nutdriver::DriverFault;
 pub use nutlisting::{OWED_LIMIT, Outbox, QUEUE_LIMIT};
 pub use nutusers::{Descriptions, SESSION_LIMIT, UpsId, UpsList, Users};

@@ -1,10 +1,11 @@
 //! What an event did that the journal logs.
 ghost use Rattle.std.specs.Prelude.{◌≡◌};
-ghost use Rattle.nutcore.specs.Notes.{data_note};
+ghost use Rattle.nutcore.specs.Notes.{data_note, has_word, shown_of};
 ghost use Rattle.nutcore.specs.Promises.{with_note};
 
 use crate::HELD_LIMIT;
 use crate::event::ClientId;
+use arrayvec::ArrayVec;
 use nutcommand::ErrWord;
 use nutdriver::DriverFault;
 use nutio::BoundedList;
@@ -16,6 +17,9 @@ use std::fmt::{self, Formatter, Write};
 /// fewer: three of each line, and two of its loss.
 pub const NOTE_LIMIT: usize = HELD_LIMIT;
 
+/// So many bytes of a refused line are noted at most, from its beginning: a name and a short value.
+pub const SHOWN_LIMIT: usize = 60;
+
 /// What an event did. It has names, and never a value or a password.
 #[derive(Drop)]
 pub enum Note {
@@ -24,8 +28,8 @@ pub enum Note {
     /// The driver reports another `ups.status`: none where it takes it away, or is lost.
     StatusChanged(UpsId, Option<Value>),
     /// A line of the driver was refused, and why: none where it reported on an order that isn't
-    /// awaited.
-    LineRefused(UpsId, Option<DriverFault>),
+    /// awaited. Of a line that speaks of the status it has the beginning.
+    LineRefused(UpsId, Option<DriverFault>, Option<ArrayVec<u8, SHOWN_LIMIT>>),
     /// A session has logged in to the UPS.
     LoggedIn(UpsId, Who),
     /// A session that is logged in to the UPS begins to end, or is closed.
@@ -123,4 +127,25 @@ pub(crate) fn note_data(u: UpsId, was: DataState, is: DataState, notes: &mut Not
     if is != was {
         notes.extend(Some(Note::Data(u, is)));
     }
+}
+
+/// What is noted of a refused line itself: its beginning, where it speaks of the status.
+#[tactic(auto, using(std::proofs::lemmas::List::take_min))]
+pub(crate) fn shown_of(line: &[u8]) -> Option<ArrayVec<u8, SHOWN_LIMIT>>
+    ensures { result ≡ shown_of line.now }
+{
+    let beginning = &line[..SHOWN_LIMIT.min(line.len())];
+    if has_word(line, b"ups.status") || has_word(line, b"ALARM") {
+        Some(ArrayVec::try_from(beginning).unwrap())
+    } else {
+        None
+    }
+}
+
+/// Whether the text has this word, between blanks or quotes.
+pub fn has_word(text: &[u8], word: &[u8]) -> bool
+    ensures { result ≡ has_word word.now text.now }
+{
+    let is_between = |b: &u8| *b <= b' ' || *b == b'"';
+    text.split(is_between).any(|one| one == word)
 }

@@ -4,7 +4,7 @@ ghost use Rattle.nuttracking.specs.Tracking.{TrackingState};
 ghost use Rattle.nutcore.specs.Ups.{new_ups, after_connecting, after_loss, after_tick, with_fsd, free_room, with_order, with_faulty_line, is_refused, UpsState};
 ghost use Rattle.nutcore.specs.Reports.{with_end, is_unawaited};
 ghost use Rattle.nutcore.specs.Due.{due_of, never};
-ghost use Rattle.nutcore.specs.Notes.{data_state_of, status_of, fault_of, loss_notes, status_note};
+ghost use Rattle.nutcore.specs.Notes.{data_state_of, status_of, fault_of, loss_notes, shown_of, status_note};
 ghost use Rattle.nutcore.specs.Promises.{IsTaken, DoesLine, IsApplied, LacksMemory, Reports, IsFront, front_or, with_hearing, with_note};
 ghost use Rattle.nutcore.specs.declared.note.DataState.TheVariants.{Awaited};
 ghost use Rattle.nutcore.specs.declared.note.Note.TheVariants.{Data, LineRefused};
@@ -14,7 +14,7 @@ ghost use Rattle.nutdriver.specs.Report.{HasLawfulNumber, line_changes, reported
 
 use crate::DRIVER_OWED_LIMIT;
 use crate::event::Fault;
-use crate::note::{DataState, Note, Notes, note_data};
+use crate::note::{DataState, Note, Notes, note_data, shown_of};
 use arrayvec::ArrayVec;
 use nutdriver::laws::{other_lines_leave_the_value, reported_numbers_are_lawful};
 use nutdriver::{DriverFault, DriverLine, LineOutcome, Report, Tree, Waste};
@@ -282,8 +282,9 @@ impl Ups {
         let was = self.data_state(now.max_age, now.seconds);
         let outcome = self.apply(u, now.seconds, piece, count, notes)?;
         if settle(u, outcome, tracking) {
-            self.refuse(u, outcome, notes);
+            self.refuse(u, outcome, piece, count, notes);
         }
+        self.cut.clear();
         let is = self.data_state(now.max_age, now.seconds);
         note_data(u, was, is, notes);
         Ok(())
@@ -320,19 +321,28 @@ impl Ups {
                 keep_status(u, &self.report.tree, &mut self.status, notes);
             }
         }
-        self.cut.clear();
         Ok(outcome)
     }
 
-    /// A line of its driver is refused, which is counted and noted. The count stops at its greatest
-    /// number.
+    /// This line of its driver is refused, which is counted and noted. The count stops at its
+    /// greatest number.
     #[inline(never)]
-    fn refuse(&mut self, u: UpsId, outcome: LineOutcome, notes: &mut Notes)
+    fn refuse(
+        &mut self,
+        u: UpsId,
+        outcome: LineOutcome,
+        piece: &[u8],
+        count: Option<usize>,
+        notes: &mut Notes,
+    )
+        requires front { IsFront count piece.now }
         ensures counted { self.new ≡ with_faulty_line self.old }
-        ensures noted { notes.new ≡ with_note (Some (LineRefused u (fault_of outcome))) notes.old }
+        ensures noted { notes.new ≡ with_note (Some (LineRefused u (fault_of outcome)
+            (shown_of (front_or count piece.now self.old.unfinished)))) notes.old }
     {
         self.faulty = self.faulty.saturating_add(1);
-        notes.extend(Some(Note::LineRefused(u, fault_of(outcome))));
+        let shown = shown_of(front_or(piece, count, self.cut.held()));
+        notes.extend(Some(Note::LineRefused(u, fault_of(outcome), shown)));
     }
 }
 

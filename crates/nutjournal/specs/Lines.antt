@@ -1,9 +1,8 @@
 -- Which line is due of a note: of which kind, and whether it counts for a UPS or an address.
 use Rattle.std.specs.Prelude.{◌≡◌, ℕ, Bool, true, false, List, [], ◌∷◌, ◌==◌, ◌&&◌, ◌||◌}
 use Rattle.std.specs.Prelude.{Option, Some, None, if◌then◌else◌, codes, slice_index_or, slice_set}
-use Rattle.std.specs.List.{list_any, slice_split}
+use Rattle.std.specs.List.{list_any}
 use Rattle.std.specs.Option.{option_map_or}
-use Rattle.std.specs.Str.{bytes_eq}
 use Rattle.nutcommand.specs.declared.err_word.ErrWord.{ErrWord}
 use Rattle.nutcommand.specs.declared.err_word.ErrWord.TheVariants as words
 use Rattle.nutcore.specs.declared.note.DataState.{DataState}
@@ -13,6 +12,7 @@ use Rattle.nutcore.specs.declared.note.Note.{Note}
 use Rattle.nutcore.specs.declared.note.Note.TheVariants as notes
 use Rattle.nutcore.specs.declared.note.Verb.{Verb}
 use Rattle.nutcore.specs.declared.note.Verb.TheVariants as verbs
+use Rattle.nutcore.specs.Notes.{has_word}
 use Rattle.nutjournal.specs.declared.doings.Doings.{Doings}
 use Rattle.nutjournal.specs.declared.doings.Leave.{Leave}
 use Rattle.nutjournal.specs.declared.doings.Leave.TheVariants as leaves
@@ -36,9 +36,6 @@ kind_of_data states.Good = kinds.Good
 kind_of_data states.Stale = kinds.Stale
 
 -- A status is an alarm on battery (OB) or with a low battery (LB).
-abbrev pub has_word : List ℕ → List ℕ → Bool
-has_word word text = list_any (λ one. bytes_eq one word) (slice_split (λ b. b == 32) text)
-
 abbrev pub kind_of_status : List ℕ → Kind
 kind_of_status status =
     if has_word (codes "OB") status && has_word (codes "LB") status then kinds.LowBattery
@@ -76,12 +73,13 @@ abbrev pub of_deed : Deed → Due
 of_deed deed = of_address deed.who.address (kind_of_deed deed.refusal deed)
 
 -- The loss of a driver has a line of its own, and a status that it takes away none. Refused lines
--- are counted.
+-- are counted, and of one that speaks of the status its beginning is logged.
 abbrev pub line_of_note : Note → Due
 line_of_note (notes.Data u state) = of_ups u.place (kind_of_data state)
 line_of_note (notes.StatusChanged u (Some status)) = of_ups u.place (kind_of_status status)
 line_of_note (notes.StatusChanged u None) = nothing
-line_of_note (notes.LineRefused u fault) = nothing
+line_of_note (notes.LineRefused u fault None) = nothing
+line_of_note (notes.LineRefused u fault (Some shown)) = of_ups u.place kinds.RefusedStatus
 line_of_note (notes.LoggedIn u who) = of_address who.address kinds.LoggedIn
 line_of_note (notes.LoggedOut u who) = of_address who.address kinds.LoggedOut
 line_of_note (notes.Did deed) = of_deed deed
@@ -113,7 +111,7 @@ due_of all note drivers = if is_hidden all note drivers then nothing else line_o
 abbrev pub drivers_after : ℕ → Note → List Driver → List Driver
 drivers_after moment (notes.Data u state) drivers =
     slice_set drivers u.place (after_state state moment (driver_at u.place drivers))
-drivers_after moment (notes.LineRefused u fault) drivers =
+drivers_after moment (notes.LineRefused u fault shown) drivers =
     let was = driver_at u.place drivers in
     slice_set drivers u.place (record was { refused = (one_more was.refused.0, fault) })
 drivers_after moment _ drivers = drivers

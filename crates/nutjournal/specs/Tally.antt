@@ -22,6 +22,7 @@ limit_of kinds.Alarm = ALARM_LIMIT
 limit_of kinds.LowBattery = ALARM_LIMIT
 limit_of kinds.Order = ALARM_LIMIT
 limit_of kinds.EmptyOrder = ALARM_LIMIT
+limit_of kinds.RefusedStatus = ALARM_LIMIT
 limit_of kind = PLAIN_LIMIT
 
 -- How urgent a line of a kind is (syslog(3)).
@@ -34,6 +35,7 @@ priority_of kinds.Alarm = WARNING
 priority_of kinds.Denied = WARNING
 priority_of kinds.EmptyOrder = WARNING
 priority_of kinds.GaveWay = WARNING
+priority_of kinds.RefusedStatus = WARNING
 priority_of kinds.Order = NOTICE
 priority_of kind = INFO
 
@@ -56,6 +58,7 @@ number kinds.Denied = 13
 number kinds.EmptyOrder = 14
 number kinds.Silent = 15
 number kinds.GaveWay = 16
+number kinds.RefusedStatus = 17
 
 -- A count stops at its greatest number.
 abbrev pub one_more : ℕ → ℕ
@@ -101,7 +104,7 @@ abbrev pub is_reported : Tally → Bool → Bool
 is_reported y is_minute = is_minute || not (is_restless y)
 
 abbrev pub nothing : List ℕ
-nothing = repeat 17 (0 ∷ [])
+nothing = repeat 18 (0 ∷ [])
 
 abbrev pub reported : Tally → Bool → List ℕ
 reported y is_minute = if is_reported y is_minute then y.more else nothing
@@ -159,7 +162,7 @@ times kind (next ∷ later) = one_if (is_same kind next) + times kind later
 -- more are logged than the limit.
 pub record EachLineIsLoggedOrCounted : Type 0 where
   pub each : (y : Tally) (kind : Kind) (lines : List Kind)
-      → length y.more ≡ 17 → count kind y + length lines < 2 ^ 64
+      → length y.more ≡ 18 → count kind y + length lines < 2 ^ 64
       → logged_of kind y lines + count kind (after_lines y lines) ≡ count kind y + times kind lines
   pub most : (y : Tally) (lines : List Kind)
       → (after_lines y lines).logged ≤ max y.logged LINE_LIMIT

@@ -1,7 +1,7 @@
 //! The journal of the UPSs and their clients while they are served.
 ghost use Rattle.std.specs.Prelude.{◌≡◌, ◌≢◌, ◌≤◌, ◌||◌, [], length, false, true, IfOk, Some};
 ghost use Rattle.nutjournal.specs.Tally.{begins_minute};
-ghost use Rattle.nutjournal.specs.Lines.{BegunCall, DueMore, NoteMore, after_call, after_due, after_notes, due_by, has_word, kind_of_data, kind_of_refusal, kind_of_status, left_due, makes_good, of_deed};
+ghost use Rattle.nutjournal.specs.Lines.{BegunCall, DueMore, NoteMore, after_call, after_due, after_notes, due_by, kind_of_data, kind_of_refusal, kind_of_status, left_due, makes_good, of_deed};
 ghost use Rattle.nutjournal.specs.Tallies.{after_second_of};
 ghost use Rattle.std.specs.List.{list_any};
 ghost use Rattle.nutjournal.specs.Waiting.{AsksForMore, are_behind, are_none, holds};
@@ -14,10 +14,12 @@ use crate::tallies::{Of, Tallies, is_any_counted};
 use crate::tally::{Count, HOUR, Kind, MINUTE, begins_minute};
 use nutargs::Said;
 use nutcommand::ErrWord;
-use nutcore::{DataState, Deed, MaxAge, Note, SESSION_LIMIT, Server, UpsId, Verb};
+use nutcore::{
+    DataState, Deed, DriverFault, MaxAge, Note, SESSION_LIMIT, Server, UpsId, Verb, has_word,
+};
 use nutwords::{Address, UpsName};
 use std::alloc::AllocError;
-use std::fmt::Display;
+use std::fmt::{self, Display, Formatter, Write};
 use std::io::Error;
 use std::mem;
 
@@ -180,11 +182,9 @@ impl Journal {
             let moment = server.current_moment();
             let news = driver.next_second(error_of(u), moment, self.max_age);
             let (count, fault) = news.refused;
-            let line = format_args!("lines of the driver refused: {count}, the last one");
-            match fault {
-                Some(fault) => log.add(INFO, ups, &format_args!("{line}: {fault}")),
-                None => log.add_if(count > 0, INFO, ups, &format_args!("{line}: no such order")),
-            }
+            let why = Why(fault);
+            let line = format_args!("lines of the driver refused: {count}, the last one: {why}");
+            log.add_if(count > 0, INFO, ups, &line);
             let error = Said(Error::from_raw_os_error(news.error.unwrap_or(0)));
             let line = format_args!("cannot connect: {error}");
             log.add_if(news.error.is_some(), WARNING, ups, &line);
@@ -317,8 +317,13 @@ impl Journal {
             }
             // The loss of a driver has a line of its own; a status that it takes away has none.
             Note::StatusChanged(_, None) => {}
-            Note::LineRefused(u, fault) => {
+            Note::LineRefused(u, fault, shown) => {
                 self.drivers[u.place as usize].refuse(*fault);
+                if let Some(shown) = shown {
+                    let (why, shown) = (Why(*fault), shown.escape_ascii());
+                    let line = format_args!("line of the driver refused ({why}): {shown}");
+                    self.log(Of::Ups(u.place), Kind::RefusedStatus, name(u), &line);
+                }
             }
             Note::LoggedIn(u, who) => {
                 let of = Of::Client(&who.address);
@@ -404,6 +409,19 @@ fn log_refusal(log: &mut LogBuffer, refusal: &mut Refusal, minute: u64) {
     );
 }
 
+/// Why a line of a driver was refused: none where it reported on an order that isn't awaited.
+#[derive(Clone, Copy)]
+struct Why(Option<DriverFault>);
+
+impl Display for Why {
+    fn fmt<W: Write>(&self, f: &mut Formatter<W>) -> fmt::Result {
+        match self.0 {
+            Some(fault) => write!(f, "{fault}"),
+            None => f.write_str("no such order"),
+        }
+    }
+}
+
 /// Why a client is logged out: it left so, or its session ended by itself.
 fn reason_of(left: Option<(&Address, Leave<'_>)>) -> &'static str {
     match left {
@@ -449,11 +467,4 @@ fn kind_of_status(status: &[u8]) -> Kind
         (false, false) => Kind::Status,
         _ => Kind::Alarm,
     }
-}
-
-/// Whether it is one of the words, with a blank between each two.
-fn has_word(text: &[u8], word: &[u8]) -> bool
-    ensures { result ≡ has_word word.now text.now }
-{
-    text.split(|b| *b == b' ').any(|one| one == word)
 }

@@ -59,10 +59,12 @@ pub enum Kind {
     EmptyOrder,
     Silent,
     GaveWay,
+    /// A refused line of a driver that speaks of the status.
+    RefusedStatus,
 }
 
 /// How many kinds there are.
-const KIND_COUNT: usize = 17;
+const KIND_COUNT: usize = 18;
 
 /// The kinds: their texts, their priorities, and how many lines in a second may be before one.
 static KINDS: [(&str, u8, u64); KIND_COUNT] = [
@@ -83,6 +85,7 @@ static KINDS: [(&str, u8, u64); KIND_COUNT] = [
     ("orders with an empty value", WARNING, ALARM_LIMIT),
     ("silent and closed", INFO, PLAIN_LIMIT),
     ("gave way", WARNING, PLAIN_LIMIT),
+    ("refused statuses", WARNING, ALARM_LIMIT),
 ];
 
 impl Kind {
