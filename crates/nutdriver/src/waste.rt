@@ -61,7 +61,9 @@ impl Waste {
     }
 
     /// Takes 1,024 nodes apart, or all that wait, and answers how many they were. One that a
-    /// version shares stays as it is, and counts.
+    /// version shares stays as it is, and counts. It is a call of its own, since each event asks
+    /// whether there are any, and would save the registers of this.
+    #[inline(never)]
     pub fn take_apart(&mut self) -> usize
         ensures most { result ≤ TAKEN_APART_LIMIT }
         ensures fewer { nodes_of self.new + result ≤ nodes_of self.old }

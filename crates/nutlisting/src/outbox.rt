@@ -170,6 +170,11 @@ impl Outbox {
         ensures version { is_some result ≡ leaves_tree self.old.cursor self.new.cursor }
     {
         self.queue.drop_front(n);
+        if self.cursor.is_none() {
+            // The proof reads here that the count is a number of 64 bits.
+            let _count = *renders;
+            return None;
+        }
         let (queue, clients) = (&mut self.queue, &mut self.clients);
         drain(&mut self.cursor, queue, clients, line, renders)
     }
