@@ -41,7 +41,7 @@ MESSAGES = [
     (JOURNAL, r'None,\s+&format_args!\("([a-z].*)"\),?\s*\);', r"\1"),
     (JOURNAL, r'^ *"(\{taken\}.*)"$', r"\1"),
     (JOURNAL, r'(?<!None, &)format_args!\("([a-z].*)"\)(?:\);|;\n.*, (?:ups|name\(u\)), &line\);)', r"su: \1"),
-    ("crates/nutjournal/src/tally.rt", r'^    \("(d(?:ata|river) .*)", [A-Z]+, [A-Z_]+\),', r"su: \1"),
+    ("crates/nutjournal/src/tally.rt", r'=> \("(d(?:ata|river) .*)", [A-Z]+, [A-Z_]+\),', r"su: \1"),
     (JOURNAL, r'^    \("([a-z].*)", (?:true|false)\),', r"\1: N"),
     ("crates/upsd/src/reading.rt", r'"upsd: \{path\}:\{number\}: (.*)"\)', r"PATH:LINE: \1"),
     (JOURNAL, r'format_args!\("\{who\} (logged .*)"\)', r"su: mon@192.0.2.1 \1"),
@@ -84,7 +84,7 @@ def manual_faults():
 def priority_faults(page):
     """The list of --priorities names each kind of a line below its priority; those below the last one aren't named."""
     numbers = dict(re.findall(r"^pub const ([A-Z]+): u8 = (\d);$", text_of("crates/nutjournal/src/log_buffer.rt"), re.M))
-    kinds = {text: numbers[it] for text, it in re.findall(r'^    \("(.*)", ([A-Z]+), [A-Z_]+\),$', text_of("crates/nutjournal/src/tally.rt"), re.M)}
+    kinds = {text: numbers[it] for text, it in re.findall(r'=> \("(.*)", ([A-Z]+), [A-Z_]+\),$', text_of("crates/nutjournal/src/tally.rt"), re.M)}
     listed = {number: re.split(r";\s+", " ".join(it.split())) for number, it in re.findall(r"^<(\d)>: ([^.]*)\.$", page, re.M)}
     if not kinds or sorted(listed) != sorted(numbers.values()) or listed[max(listed)] != ["all else"]:
         yield "man/upsd.8: no list of --priorities, or the sources have none"

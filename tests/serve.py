@@ -216,18 +216,21 @@ def read_to_end_of_drops(reading, journal):
     return journal.decode().splitlines()
 
 
+ALARMS = b"".join(b'SETINFO ups.status "OB %d%s"\n' % (number, b"\xff" * 505) for number in range(8))
+
+
 def a_standard_error_that_nobody_reads_stops_nothing():
-    """A pipe, and a terminal. Many addresses have as many lines as each may have."""
+    """A pipe, and a terminal. A driver reports as many long alarms as are logged."""
     slowest, refusal = 0, b"ERR USERNAME-REQUIRED\n"
     for reading, errors in (os.pipe(), os.openpty()):
         with served(errors=errors) as (server, driver, good):
             os.close(errors)
-            crowd, asked = [server.client(f"127.0.0.{number}") for number in range(2, 64)], 0
-            for _ in range(6):
-                driver.send(b"PONG\n")
-                for client in crowd:
-                    assert client.ask(b"LOGIN su\n" * 8) == refusal * 8
-                    slowest, asked = max(slowest, worst_wait(good, 1)), asked + 8
+            for _ in range(8):
+                driver.send(ALARMS)
+                assert comes(lambda: b'"OB 7' in good.ask(GET))  # noqa: B023
+                driver.send(b'SETINFO ups.status "OL"\n')
+                assert comes(lambda: good.ask(GET) == STATUS)  # noqa: B023
+                slowest = max(slowest, worst_wait(good, 1))
                 time.sleep(1)
             # Once there is room for a piece, no more is written.
             journal = os.read(reading, 4096)
@@ -236,9 +239,9 @@ def a_standard_error_that_nobody_reads_stops_nothing():
             lines = read_to_end_of_drops(reading, journal)
             # A pipe takes all that waits at once, a terminal some of it.
             assert os.isatty(reading) or time.monotonic() - begin < 3 * serving.SLOWER, "the lines lag"
-            refused, dropped = sum("refused LOGIN" in line for line in lines), int(lines[-1].split()[1])
+            logged, dropped = sum("status OB" in line for line in lines), int(lines[-1].split()[1])
             assert "".join(line + "\n" for line in lines[:3]) == COME, lines[:3]
-            assert 0 < dropped and asked - 400 <= refused + dropped <= asked + 400, (asked, refused, dropped)
+            assert 0 < dropped and 56 <= logged + dropped <= 90, (logged, dropped)
             good.send(b"LOGIN su\n")
             assert good.line() == refusal
             assert b"127.0.0.1 was refused LOGIN" in os.read(reading, 1 << 16)
@@ -555,6 +558,66 @@ def each_line_has_its_priority_where_it_is_asked_for():
         assert comes(lambda: server.journal().splitlines()[:len(lines)] == lines), server.journal()
 
 
+def each_order_of_another_kind_is_logged_behind_a_flood_of_one():
+    with served(ORDERS) as (server, _, good):
+        assert good.ask(ADMIN + b"SET VAR su ups.delay 30\n" * 12 + b"INSTCMD su test.battery.start\n") == b"OK\n" * 15
+        assert server.journal().count("upsd: su: admin@127.0.0.1 ordered INSTCMD test.battery.start\n") == 1, server.journal()
+
+
+def each_forced_shutdown_of_twelve_upses_is_logged():
+    names = [f"u{number:02}" for number in range(12)]
+    with begun(file("twelve.conf", "".join(f"[{name}]\n" for name in names))) as server:
+        client = server.client()
+        assert client.ask(ADMIN + b"".join(b"FSD %s\n" % name.encode() for name in names)) == b"OK\n" * 2 + b"OK FSD-SET\n" * 12
+        for name in names:
+            assert server.journal().count(f"upsd: {name}: admin@127.0.0.1 ordered FSD: forced shutdown\n") == 1, (name, server.journal())
+
+
+def each_order_is_logged_among_refusals_of_64_addresses():
+    """Which are no more than 30 lines a second together. After 20 lines in a minute those of an address are counted."""
+    done, begin = threading.Event(), time.monotonic()
+
+    def guess_from(numbers):
+        for number in itertools.cycle(numbers):
+            if done.is_set():
+                return
+            client = server.client(f"127.0.1.{number}")
+            client.ask(b"LOGIN su\n" * 20)
+            client.close()
+
+    with served(ORDERS) as (server, _, good):
+        threads = [threading.Thread(target=guess_from, args=(range(first, first + 16),)) for first in (1, 17, 33, 49)]
+        assert good.ask(ADMIN) == b"OK\n" * 2
+        for thread in threads:
+            thread.start()
+        try:
+            time.sleep(1)
+            for _ in range(20):
+                assert good.ask(b"INSTCMD su test.battery.start\n") == b"OK\n"
+                time.sleep(0.15)
+        finally:
+            done.set()
+            for thread in threads:
+                thread.join()
+        seconds, lines = time.monotonic() - begin, server.journal().splitlines()
+        assert lines.count("upsd: su: admin@127.0.0.1 ordered INSTCMD test.battery.start") == 20, server.journal()
+        named = sum("was refused LOGIN" in line for line in lines)
+        assert 0 < named <= 30 * (seconds + 2), (named, seconds)
+
+
+def after_20_lines_in_a_minute_a_client_is_only_counted():
+    """Its first minute has at most 30 lines of it. An order of the same address is logged still."""
+    with served(ORDERS) as (server, _, good):
+        stranger, end = server.client(), time.monotonic() + 6
+        while time.monotonic() < end:
+            assert stranger.ask(b"LOGIN u01\n").startswith(b"ERR ")
+        assert good.ask(ADMIN + b"INSTCMD su test.battery.start\n") == b"OK\n" * 3
+        lines = server.journal().splitlines()
+        assert sum("127.0.0.1 was refused LOGIN" in line for line in lines) == 20, server.journal()
+        assert sum("127.0.0.1" in line for line in lines) <= 30, server.journal()
+        assert lines[-1] == "upsd: su: admin@127.0.0.1 ordered INSTCMD test.battery.start", lines[-3:]
+
+
 def a_forced_shutdown_behind_refused_lines_of_the_same_read_is_logged():
     with served() as (server, _, good):
         assert good.ask(ADMIN + b"LOGIN x\n" * 64 + b"FSD su\n") == b"OK\n" * 2 + b"ERR UNKNOWN-UPS\n" * 64 + b"OK FSD-SET\n"
@@ -565,12 +628,11 @@ def a_forced_shutdown_behind_refused_lines_of_the_same_read_is_logged():
 def what_matters_is_logged_behind_a_reader_that_sleeps():
     """Of a standard error that nobody reads for three seconds, in a flood of a driver's long statuses: OB LB, and a forced shutdown."""
     reading, errors = os.pipe()
-    longest = [b'SETINFO ups.status "OL %d%s"\n' % (number, b"\xff" * 505) for number in range(8)]
     with served(errors=errors) as (server, driver, good):
         os.close(errors)
         assert good.ask(ADMIN) == b"OK\n" * 2
         for _ in range(8):
-            driver.send(b"".join(longest))
+            driver.send(ALARMS)
             time.sleep(1)
         driver.send(b'SETINFO ups.status "OB LB"\n')
         assert comes(lambda: b"OB LB" in good.ask(GET))
@@ -623,19 +685,19 @@ def come_and_go(driver):
 
 def a_driver_that_comes_and_goes_is_logged_once_a_minute():
     """It does so from the first case on, and in each minute is logged at first. Beside it is one that never reports all."""
-    wanted = [f"upsd: su: {line}" for line in [*NEWS, "driver lost"] * 2 + NEWS]
+    wanted = [f"upsd: su: {line}" for line in [*NEWS, "driver lost"] * 5]
 
     def lines():
         return [line for line in RESTLESS.journal().splitlines() if line.startswith("upsd: su: ")]
 
     assert comes(lambda: "more lines" in RESTLESS.journal(), 62), RESTLESS.journal()
     came, logged = len(COMINGS), lines()
-    assert logged[:11] == wanted and logged[11].startswith("upsd: su: more lines: ") and "; now d" in logged[11], logged
+    assert logged[:20] == wanted and logged[20].startswith("upsd: su: more lines: ") and "; now d" in logged[20], logged
     # In the first minute it was lost as often as it came, or has just come.
     minute = types.SimpleNamespace(journal=lambda: RESTLESS.journal().partition("; now ")[0] + "; now \n")
     counts = [sum(parts_of(minute, line, line)) for line in (*NEWS[::2], "driver lost")]
     assert 20 <= min(counts) and max(counts) <= min(min(counts) + 1, came + 1), (counts, came, logged)
-    assert comes(lambda: lines()[12:].count("upsd: su: driver lost") >= 2), lines()
+    assert comes(lambda: lines()[21:].count("upsd: su: driver lost") >= 2), lines()
     assert comes(lambda: STALE, 30) and GREATER_AGE <= STALE[0] <= GREATER_AGE + 5, STALE
     RESTLESS.close()
 

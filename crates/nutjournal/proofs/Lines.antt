@@ -1,6 +1,6 @@
 -- What is logged and what is counted.
 use Rattle.std.proofs.Common.{◌≡◌, ℕ, ◌+◌, ◌-◌, ◌<◌, ◌≤◌, ◌^◌, max}
-use Rattle.std.proofs.Common.{List, [], ◌∷◌, length, arith}
+use Rattle.std.proofs.Common.{List, [], ◌∷◌, length, arith, Bool}
 use Rattle.std.specs.Prelude.{◌&&◌, ◌==◌}
 use Rattle.std.proofs.lemmas.Bool.Decides.{nat_tests}
 use Rattle.std.proofs.lemmas.List.{get_or-set_same, get_or-set_other, length-set}
@@ -10,7 +10,7 @@ use Rattle.nutjournal.specs.declared.tally.Kind.TheVariants as kinds
 use Rattle.nutjournal.specs.declared.tally.Tally.{Tally}
 use Rattle.nutjournal.specs.declared.tally.TheConstants.{LINE_LIMIT}
 use Rattle.nutjournal.specs.Tally.{after_line, after_lines, count, number, is_logged, is_same}
-use Rattle.nutjournal.specs.Tally.{one_if, one_more, logged_of, times, limit_of}
+use Rattle.nutjournal.specs.Tally.{Coming, one_if, one_more, logged_of, times, limit_of}
 use Rattle.nutjournal.specs.Tally.{EachLineIsLoggedOrCounted}
 
 number_below : (kind : Kind) → number kind < 18
@@ -63,27 +63,37 @@ raised more i j below room = grind (
   get_or-set_other more j i (one_more (get_or more j 0)) 0,
 )
 
-step : (y : Tally) (kind next : Kind) → length y.more ≡ 18 → count kind y < 2 ^ 64 - 1
-    → one_if (is_same kind next && is_logged y next) + count kind (after_line y next) ≡
+step : (r : Bool) (y : Tally) (kind next : Kind) → length y.more ≡ 18 → count kind y < 2 ^ 64 - 1
+    → one_if (is_same kind next && is_logged r y next) + count kind (after_line r y next) ≡
     count kind y + one_if (is_same kind next)
-step y kind next size room = grind (arith, nat_tests, raised y.more (number kind) (number next), number_below next)
+step r y kind next size room = grind (arith, nat_tests, raised y.more (number kind) (number next), number_below next)
 
-same_size : (y : Tally) (next : Kind) → length (after_line y next).more ≡ length y.more
-same_size y next = grind (arith, length-set y.more (number next) (one_more (count next y)))
+same_size : (r : Bool) (y : Tally) (next : Kind) → length (after_line r y next).more ≡ length y.more
+same_size r y next = grind (arith, length-set y.more (number next) (one_more (count next y)))
 
-each_of : (y : Tally) (kind : Kind) (lines : List Kind) → length y.more ≡ 18 → count kind y +
+each_of : (y : Tally) (kind : Kind) (lines : List Coming) → length y.more ≡ 18 → count kind y +
     length lines < 2 ^ 64
     → logged_of kind y lines + count kind (after_lines y lines) ≡ count kind y + times kind lines
 each_of y kind [] size room = grind arith
 each_of y kind (next ∷ later) size room =
-    grind (arith, nat_tests, step y kind next size, same_size y next, each_of (after_line y next) kind later)
+    grind (
+      arith,
+      nat_tests,
+      step next.has_room y kind next.kind size,
+      same_size next.has_room y next.kind,
+      each_of (after_line next.has_room y next.kind) kind later,
+    )
 
-logged_most : (y : Tally) (next : Kind) → (after_line y next).logged ≤ max y.logged LINE_LIMIT
-logged_most y next = grind (arith, nat_tests, limit_below next)
+logged_most : (r : Bool) (y : Tally) (next : Kind) → (after_line r y next).logged ≤ max y.logged LINE_LIMIT
+logged_most r y next = grind (arith, nat_tests, limit_below next)
 
-most_of : (y : Tally) (lines : List Kind) → (after_lines y lines).logged ≤ max y.logged LINE_LIMIT
+most_of : (y : Tally) (lines : List Coming) → (after_lines y lines).logged ≤ max y.logged LINE_LIMIT
 most_of y [] = grind arith
-most_of y (next ∷ later) = grind (arith, logged_most y next, most_of (after_line y next) later)
+most_of y (next ∷ later) = grind (
+  arith,
+  logged_most next.has_room y next.kind,
+  most_of (after_line next.has_room y next.kind) later,
+)
 
 pub each_line_is_logged_or_counted : EachLineIsLoggedOrCounted
 each_line_is_logged_or_counted = record { each = each_of; most = most_of }

@@ -26,8 +26,9 @@ use Rattle.nutjournal.specs.declared.tallies.Of.TheVariants as whose
 use Rattle.nutjournal.specs.declared.tallies.Tallies.{Tallies}
 use Rattle.nutjournal.specs.Drivers.{after_state, is_first_stale}
 use Rattle.nutjournal.specs.LogBuffer.{MoreIf}
-use Rattle.nutjournal.specs.Tallies.{after_address, after_ups, tally_of_address, tally_of_ups}
-use Rattle.nutjournal.specs.Tally.{is_logged, one_more, priority_of}
+use Rattle.nutjournal.specs.Tallies.{after_client, after_order, after_ups, after_user}
+use Rattle.nutjournal.specs.Tallies.{is_client_logged, is_order_logged, is_ups_logged, is_user_logged}
+use Rattle.nutjournal.specs.Tally.{one_more, priority_of}
 
 abbrev pub kind_of_data : DataState → Kind
 kind_of_data states.Lost = kinds.Lost
@@ -63,14 +64,21 @@ abbrev pub kind_of_deed : Option ErrWord → Deed → Kind
 kind_of_deed None deed = kind_of_granted deed.verb deed.has_empty_value
 kind_of_deed (Some word) deed = kind_of_refusal deed.verb word
 
--- A line that is due: none, one of the UPS of a place, or one of a client's address.
+-- A line that is due: none, one of the UPS of a place, of what a user did at an address, of an
+-- order, or of what any client of an address may cause.
 pub data Due : Type 0 where
   nothing : Due
   of_ups : (place : ℕ) → (kind : Kind) → Due
-  of_address : (address : List ℕ) → (kind : Kind) → Due
+  of_user : (address : List ℕ) → (kind : Kind) → Due
+  of_order : (deed : Deed) → (kind : Kind) → Due
+  of_client : (address : List ℕ) → (kind : Kind) → Due
+
+abbrev pub deed_by : Option ErrWord → Deed → Due
+deed_by None deed = of_order deed (kind_of_deed None deed)
+deed_by (Some word) deed = of_client deed.who.address (kind_of_deed (Some word) deed)
 
 abbrev pub of_deed : Deed → Due
-of_deed deed = of_address deed.who.address (kind_of_deed deed.refusal deed)
+of_deed deed = deed_by deed.refusal deed
 
 -- The loss of a driver has a line of its own, and a status that it takes away none. Refused lines
 -- are counted, and of one that speaks of the status its beginning is logged.
@@ -80,8 +88,8 @@ line_of_note (notes.StatusChanged u (Some status)) = of_ups u.place (kind_of_sta
 line_of_note (notes.StatusChanged u None) = nothing
 line_of_note (notes.LineRefused u fault None) = nothing
 line_of_note (notes.LineRefused u fault (Some shown)) = of_ups u.place kinds.RefusedStatus
-line_of_note (notes.LoggedIn u who) = of_address who.address kinds.LoggedIn
-line_of_note (notes.LoggedOut u who) = of_address who.address kinds.LoggedOut
+line_of_note (notes.LoggedIn u who) = of_user who.address kinds.LoggedIn
+line_of_note (notes.LoggedOut u who) = of_user who.address kinds.LoggedOut
 line_of_note (notes.Did deed) = of_deed deed
 
 -- A driver may report all, and only then that it is right: it wasn't stale between.
@@ -119,18 +127,24 @@ drivers_after moment _ drivers = drivers
 -- A line is logged or counted.
 abbrev pub is_due_logged : Due → Tallies → Bool
 is_due_logged nothing all = false
-is_due_logged (of_ups place kind) all = is_logged (tally_of_ups place all) kind
-is_due_logged (of_address address kind) all = is_logged (tally_of_address address all) kind
+is_due_logged (of_ups place kind) all = is_ups_logged place kind all
+is_due_logged (of_user address kind) all = is_user_logged address kind all
+is_due_logged (of_order deed kind) all = is_order_logged deed kind all
+is_due_logged (of_client address kind) all = is_client_logged address kind all
 
 abbrev pub due_priority : Due → ℕ
 due_priority nothing = 0
 due_priority (of_ups place kind) = priority_of kind
-due_priority (of_address address kind) = priority_of kind
+due_priority (of_user address kind) = priority_of kind
+due_priority (of_order deed kind) = priority_of kind
+due_priority (of_client address kind) = priority_of kind
 
 abbrev pub after_due : Due → Tallies → Tallies
 after_due nothing all = all
 after_due (of_ups place kind) all = after_ups place kind all
-after_due (of_address address kind) all = after_address address kind all
+after_due (of_user address kind) all = after_user address kind all
+after_due (of_order deed kind) all = after_order deed kind all
+after_due (of_client address kind) all = after_client address kind all
 
 -- One line waits for standard error where it is logged, and none where it is counted.
 pub record DueMore (due : Due) (old new : Journal) : Type 0 where
@@ -156,8 +170,8 @@ after_notes moment all drivers tallies = along moment all all drivers tallies
 
 -- The line of a client that the server ended.
 abbrev pub left_by : Leave → List ℕ → Due
-left_by (leaves.Silent seconds) address = of_address address kinds.Silent
-left_by (leaves.GaveWay to seconds) address = of_address address kinds.GaveWay
+left_by (leaves.Silent seconds) address = of_client address kinds.Silent
+left_by (leaves.GaveWay to seconds) address = of_client address kinds.GaveWay
 left_by _ address = nothing
 
 abbrev pub left_due : Doings → Due
@@ -177,4 +191,6 @@ pub record BegunCall (moment : ℕ) (all : List Note) (doings : Doings) (old new
 
 abbrev pub due_by : Of → Kind → Due
 due_by (whose.Ups place) kind = of_ups place kind
-due_by (whose.Client address) kind = of_address address.now kind
+due_by (whose.User address) kind = of_user address.now kind
+due_by (whose.Order deed) kind = of_order deed.now kind
+due_by (whose.Client address) kind = of_client address.now kind

@@ -2,7 +2,7 @@
 use Rattle.std.specs.Prelude.{◌≡◌, ℕ, ◌+◌, ◌-◌, ◌^◌, ◌<◌, ◌==◌, ◌&&◌, ◌||◌, Bool, List, [], ◌∷◌}
 use Rattle.std.specs.Prelude.{◌≢◌, ◌/◌, true, Option, Some, None, if◌then◌else◌, not, nat_lt, min}
 use Rattle.std.specs.Prelude.{max, ◌≤◌, length, slice_index, slice_set}
-use Rattle.std.specs.Prelude.{nat_eq}
+use Rattle.std.specs.Prelude.{nat_eq, nat_le}
 use Rattle.std.specs.List.{list_any, repeat}
 use Rattle.std.specs.Option.{option_eq}
 use Rattle.nutjournal.specs.declared.tally.Count.{Count}
@@ -11,18 +11,16 @@ use Rattle.nutjournal.specs.declared.tally.Kind.TheVariants as kinds
 use Rattle.nutjournal.specs.declared.tally.Tally.{Tally}
 use Rattle.nutjournal.specs.declared.log_buffer.TheConstants.{CRITICAL, WARNING, NOTICE, INFO}
 use Rattle.nutjournal.specs.declared.tally.TheConstants.{LINE_LIMIT, ALARM_LIMIT, PLAIN_LIMIT}
-use Rattle.nutjournal.specs.declared.tally.TheConstants.{LOSS_LIMIT, MINUTE}
+use Rattle.nutjournal.specs.declared.tally.TheConstants.{MINUTE_LIMIT, MINUTE}
 
 -- The most lines in a second before one of this kind: alarms and orders have one more than all
 -- else, and a forced shutdown one more than these.
 abbrev pub limit_of : Kind → ℕ
 limit_of kinds.ForcedShutdown = LINE_LIMIT
-limit_of kinds.Stale = ALARM_LIMIT
 limit_of kinds.Alarm = ALARM_LIMIT
 limit_of kinds.LowBattery = ALARM_LIMIT
 limit_of kinds.Order = ALARM_LIMIT
 limit_of kinds.EmptyOrder = ALARM_LIMIT
-limit_of kinds.RefusedStatus = ALARM_LIMIT
 limit_of kind = PLAIN_LIMIT
 
 -- How urgent a line of a kind is (syslog(3)).
@@ -64,42 +62,33 @@ number kinds.RefusedStatus = 17
 abbrev pub one_more : ℕ → ℕ
 one_more n = min (n + 1) (2 ^ 64 - 1)
 
--- How often the driver was lost in this minute, and whether that is too often.
-abbrev pub losses_after : Kind → ℕ → ℕ
-losses_after kinds.Lost losses = one_more losses
-losses_after kind losses = losses
-
+-- So many lines were logged in this minute that only alarms and orders still are.
 abbrev pub is_restless : Tally → Bool
-is_restless y = nat_lt LOSS_LIMIT y.losses
+is_restless y = nat_le MINUTE_LIMIT y.lines
 
--- A line is logged while there are fewer than its limit. Of a driver that was lost too often only
--- alarms are.
-abbrev pub is_logged : Tally → Kind → Bool
-is_logged y kind =
-    nat_lt y.logged (limit_of kind)
-    && not (limit_of kind == PLAIN_LIMIT && nat_lt LOSS_LIMIT (losses_after kind y.losses))
+-- A line is logged where the others leave it room, while there are fewer than its limit.
+abbrev pub is_logged : Bool → Tally → Kind → Bool
+is_logged has_room y kind =
+    has_room
+    && (nat_lt y.logged (limit_of kind) && not (is_restless y && limit_of kind == PLAIN_LIMIT))
 
 -- How many of a kind are counted.
 abbrev pub count : Kind → Tally → ℕ
 count kind y = slice_index y.more (number kind)
 
 -- What is not logged is counted.
-abbrev pub after_line : Tally → Kind → Tally
-after_line y kind =
-    if is_logged y kind
-    then record y { losses = losses_after kind y.losses; logged = y.logged + 1 }
-    else record y {
-      losses = losses_after kind y.losses;
-      more = slice_set y.more (number kind) (one_more (count kind y));
-    }
+abbrev pub after_line : Bool → Tally → Kind → Tally
+after_line has_room y kind =
+    if is_logged has_room y kind
+    then record y { lines = one_more y.lines; logged = y.logged + 1 }
+    else record y { more = slice_set y.more (number kind) (one_more (count kind y)) }
 
 -- Another minute has begun since the second in which the journal was written last.
 abbrev pub begins_minute : Option ℕ → ℕ → Bool
 begins_minute None now = true
 begins_minute (Some second) now = not (second / MINUTE == now / MINUTE)
 
--- What was counted is reported once the second is over: of a driver that was lost too often once
--- the minute is.
+-- What was counted is reported once the second is over: after too many lines once the minute is.
 abbrev pub is_reported : Tally → Bool → Bool
 is_reported y is_minute = is_minute || not (is_restless y)
 
@@ -112,7 +101,7 @@ reported y is_minute = if is_reported y is_minute then y.more else nothing
 abbrev pub after_second : Tally → Bool → Tally
 after_second y is_minute =
     record {
-      losses = if is_minute then 0 else y.losses;
+      lines = if is_minute then 0 else y.lines;
       logged = 0;
       more = if is_reported y is_minute then nothing else y.more;
     }
@@ -138,10 +127,15 @@ after_count count is_held minute was =
     if is_counted count is_held minute was
     then record { logged = count; minute = Some minute } else was
 
--- The tally after lines of these kinds, how many of one kind were logged, and how many there were.
-abbrev pub after_lines : Tally → List Kind → Tally
+-- A line that comes: whether the others leave it room, and its kind.
+pub record Coming : Type 0 where
+  pub has_room : Bool
+  pub kind : Kind
+
+-- The tally after such lines, how many of one kind were logged, and how many there were.
+abbrev pub after_lines : Tally → List Coming → Tally
 after_lines y [] = y
-after_lines y (next ∷ later) = after_lines (after_line y next) later
+after_lines y (next ∷ later) = after_lines (after_line next.has_room y next.kind) later
 
 abbrev pub one_if : Bool → ℕ
 one_if holds = if holds then 1 else 0
@@ -149,28 +143,29 @@ one_if holds = if holds then 1 else 0
 abbrev pub is_same : Kind → Kind → Bool
 is_same kind other = number kind == number other
 
-abbrev pub logged_of : Kind → Tally → List Kind → ℕ
+abbrev pub logged_of : Kind → Tally → List Coming → ℕ
 logged_of kind y [] = 0
 logged_of kind y (next ∷ later) =
-    one_if (is_same kind next && is_logged y next) + logged_of kind (after_line y next) later
+    one_if (is_same kind next.kind && is_logged next.has_room y next.kind)
+    + logged_of kind (after_line next.has_room y next.kind) later
 
-abbrev pub times : Kind → List Kind → ℕ
+abbrev pub times : Kind → List Coming → ℕ
 times kind [] = 0
-times kind (next ∷ later) = one_if (is_same kind next) + times kind later
+times kind (next ∷ later) = one_if (is_same kind next.kind) + times kind later
 
 -- Of the lines of a second each is logged, or is counted by its kind, while the count has room. No
 -- more are logged than the limit.
 pub record EachLineIsLoggedOrCounted : Type 0 where
-  pub each : (y : Tally) (kind : Kind) (lines : List Kind)
+  pub each : (y : Tally) (kind : Kind) (lines : List Coming)
       → length y.more ≡ 18 → count kind y + length lines < 2 ^ 64
       → logged_of kind y lines + count kind (after_lines y lines) ≡ count kind y + times kind lines
-  pub most : (y : Tally) (lines : List Kind)
+  pub most : (y : Tally) (lines : List Coming)
       → (after_lines y lines).logged ≤ max y.logged LINE_LIMIT
 
--- In each minute the first two losses of a driver are logged, within the lines of their second. A
--- minute counts its own losses only, whatever seconds the clock skipped before.
-pub record LossesAreLoggedInTheirMinute : Type 0 where
+-- A minute counts its own lines only, whatever seconds the clock skipped before. However many there
+-- were, an alarm of a UPS, as OB or LB, is logged while its second has fewer than nine lines.
+pub record MinutesAreApart : Type 0 where
   pub none_yet : (y : Tally) (was now : ℕ) → was / MINUTE ≢ now / MINUTE
-      → (after_second y (begins_minute (Some was) now)).losses ≡ 0
-  pub logged : (y : Tally) → y.losses < LOSS_LIMIT → y.logged < PLAIN_LIMIT
-      → is_logged y kinds.Lost ≡ true
+      → (after_second y (begins_minute (Some was) now)).lines ≡ 0
+  pub alarms : (y : Tally) → y.logged < ALARM_LIMIT
+      → (is_logged true y kinds.Alarm ≡ true) × (is_logged true y kinds.LowBattery ≡ true)

@@ -10,12 +10,15 @@ use Rattle.nutjournal.specs.declared.tally.Count.{Count}
 use Rattle.nutjournal.specs.LogBuffer.{has_waiting}
 use Rattle.nutjournal.specs.Tally.{has_more, is_behind}
 
--- Lines wait, or lines of one of the first UPSs were counted, or its driver may be late.
+-- Lines wait, or lines of one of the first UPSs or of a client were counted, or a driver of these
+-- UPSs may be late.
 abbrev pub holds : ℕ → Journal → Bool
 holds count j =
     has_waiting j.log
     || (list_any has_more (take count j.tallies.upses)
-    || list_any (λ x. is_some x.awaited) (take count j.drivers))
+    || (list_any has_more j.tallies.users.tallies
+    || (list_any has_more j.tallies.clients.tallies
+    || list_any (λ x. is_some x.awaited) (take count j.drivers))))
 
 -- Then it asks for more.
 abbrev pub AsksForMore : ℕ → Journal → Type 0

@@ -10,7 +10,7 @@ use crate::doings::{Crowd, Doings, Leave};
 use crate::drivers::{Driver, Drivers, is_any_awaited};
 use crate::log_buffer::{INFO, LogBuffer, WARNING};
 use crate::refusals::{Refusal, Refusals};
-use crate::tallies::{Of, Tallies, is_any_counted};
+use crate::tallies::{Clients, Of, Tallies, is_any_counted};
 use crate::tally::{Count, HOUR, Kind, MINUTE, begins_minute};
 use nutargs::Said;
 use nutcommand::ErrWord;
@@ -117,7 +117,7 @@ impl Journal {
         if was != moment {
             let is_minute = begins_minute(was, server.current_moment());
             self.log_drivers(server, is_minute, error_of);
-            self.log_counts(server.current_moment() / MINUTE, doings);
+            self.log_counts(server.current_moment() / MINUTE, is_minute, doings);
             self.log_crowd(server.current_moment() / HOUR, crowd);
             self.tallies.next_second(server.ups().len(), is_minute);
         } else if server.notes().is_empty() && doings.are_none() {
@@ -139,6 +139,8 @@ impl Journal {
     {
         self.log.has_waiting()
             || is_any_counted(&self.tallies.upses[..count])
+            || is_any_counted(&self.tallies.users.tallies)
+            || is_any_counted(&self.tallies.clients.tallies)
             || is_any_awaited(&self.drivers[..count])
     }
 
@@ -192,21 +194,15 @@ impl Journal {
         }
     }
 
-    /// Logs what was counted of the clients in the last second, what is new in the counts and of
-    /// the newcomers that were sent away, and the end of the record.
-    fn log_counts(&mut self, minute: u64, doings: Doings<'_>)
+    /// Logs what was counted of the clients, what is new in the counts and of the newcomers that
+    /// were sent away, and the end of the record.
+    fn log_counts(&mut self, minute: u64, is_minute: bool, doings: Doings<'_>)
         ensures moment { self.new.moment ≡ self.old.moment }
         ensures tallies { self.new.tallies ≡ self.old.tallies }
     {
         let (log, tallies) = (&mut self.log, &self.tallies);
-        for place in 0..=tallies.addresses.len() {
-            let more = tallies.clients[place].reported(true);
-            let address = tallies.address(place).escape_ascii();
-            if let Some(priority) = more.priority() {
-                let line = format_args!("more lines of {address}: {more}");
-                log.add(priority, None, &line);
-            }
-        }
+        log_more(log, &tallies.users, is_minute);
+        log_more(log, &tallies.clients, is_minute);
         for place in 0..COUNTED.len() {
             let (what, is_held) = COUNTED[place];
             if let Some(count) = self.counts[place].more(doings.counts[place], is_held, minute) {
@@ -326,12 +322,12 @@ impl Journal {
                 }
             }
             Note::LoggedIn(u, who) => {
-                let of = Of::Client(&who.address);
+                let of = Of::User(&who.address);
                 let line = format_args!("{who} logged in");
                 self.log(of, Kind::LoggedIn, name(u), &line);
             }
             Note::LoggedOut(u, who) => {
-                let of = Of::Client(&who.address);
+                let of = Of::User(&who.address);
                 let line = format_args!("{who} logged out: {}", reason_of(left));
                 self.log(of, Kind::LoggedOut, name(u), &line);
             }
@@ -350,7 +346,7 @@ impl Journal {
             Verb::SetVar => "SET VAR",
             Verb::InstCmd => "INSTCMD",
         };
-        let (of, ups) = (Of::Client(&deed.who.address), deed.ups.as_ref());
+        let (order, ups) = (Of::Order(deed), deed.ups.as_ref());
         let who = &deed.who;
         let name = deed.name.as_ref();
         let name = name.map_or(b"".as_slice(), |name| name.as_bytes());
@@ -358,21 +354,21 @@ impl Journal {
         match (deed.refusal, deed.verb) {
             (None, Verb::Fsd) => {
                 let line = format_args!("{who} ordered {command}: forced shutdown");
-                self.log(of, Kind::ForcedShutdown, ups, &line);
+                self.log(order, Kind::ForcedShutdown, ups, &line);
             }
             (None, _) if deed.has_empty_value => {
                 let line = format_args!("{who} ordered {command}{space}{name} with an empty value");
-                self.log(of, Kind::EmptyOrder, ups, &line);
+                self.log(order, Kind::EmptyOrder, ups, &line);
             }
             (None, _) => {
                 let line = format_args!("{who} ordered {command}{space}{name}");
-                self.log(of, Kind::Order, ups, &line);
+                self.log(order, Kind::Order, ups, &line);
             }
             (Some(word), verb) => {
                 let kind = kind_of_refusal(verb, word);
                 let word = word.spelling().escape_ascii();
                 let line = format_args!("{who} was refused {command}{space}{name}: {word}");
-                self.log(of, kind, ups, &line);
+                self.log(Of::Client(&deed.who.address), kind, ups, &line);
             }
         }
     }
@@ -385,6 +381,18 @@ fn become_good(notes: &[Note], u: UpsId) -> bool
     let of = u.place;
     let is_good = |note: &Note| matches!(note, Note::Data(v, DataState::Good) if v.place == of);
     notes.iter().any(is_good)
+}
+
+/// Logs what was counted of each address, of which that is due.
+fn log_more(log: &mut LogBuffer, clients: &Clients, is_minute: bool) {
+    for place in 0..=clients.addresses.len() {
+        let more = clients.tallies[place].reported(is_minute);
+        let address = clients.address(place).escape_ascii();
+        if let Some(priority) = more.priority() {
+            let line = format_args!("more lines of {address}: {more}");
+            log.add(priority, None, &line);
+        }
+    }
 }
 
 /// Logs of each address whose newcomers were sent away how many there were, once a minute.

@@ -1,19 +1,23 @@
 //! The numbers of the journal, and what it logs and counts.
 ghost use Rattle.std.specs.Prelude.{◌≡◌};
-ghost use Rattle.nutjournal.specs.Tally.{EachLineIsLoggedOrCounted, LossesAreLoggedInTheirMinute};
+ghost use Rattle.nutjournal.specs.Tallies.{FirstOrdersAreLogged};
+ghost use Rattle.nutjournal.specs.Tally.{EachLineIsLoggedOrCounted, MinutesAreApart};
 ghost use Rattle.nutjournal.specs.declared.log_buffer.TheConstants.{LOG_LIMIT, RESERVE};
-ghost use Rattle.nutjournal.specs.declared.tallies.TheConstants.{ADDRESS_COUNT};
-ghost use Rattle.nutjournal.specs.declared.tally.TheConstants.{ALARM_LIMIT, LINE_LIMIT, LOSS_LIMIT, MINUTE, PLAIN_LIMIT};
+ghost use Rattle.nutjournal.specs.declared.tallies.TheConstants.{ADDRESS_COUNT, ORDER_COUNT, REFUSAL_LIMIT};
+ghost use Rattle.nutjournal.specs.declared.tally.TheConstants.{ALARM_LIMIT, LINE_LIMIT, MINUTE, MINUTE_LIMIT, PLAIN_LIMIT};
 
 /// The most lines in a second of a UPS or an address, the addresses with a count of their own, the
-/// losses logged in a minute, the most bytes that wait, and how many of them only critical lines,
+/// orders of a second that are logged whatever came before, the lines in a second of what any client
+/// may cause, the lines in a minute before all but alarms and orders is counted, the most bytes that wait, and how many of them only critical lines,
 /// and then only these and warnings, may fill.
 pub fn numbers()
     ensures lines { LINE_LIMIT ≡ 10 }
     ensures alarms { ALARM_LIMIT ≡ 9 }
     ensures plain { PLAIN_LIMIT ≡ 8 }
     ensures addresses { ADDRESS_COUNT ≡ 64 }
-    ensures losses { LOSS_LIMIT ≡ 2 }
+    ensures orders { ORDER_COUNT ≡ 64 }
+    ensures refusals { REFUSAL_LIMIT ≡ 30 }
+    ensures in_minute { MINUTE_LIMIT ≡ 20 }
     ensures minute { MINUTE ≡ 60 }
     ensures waiting { LOG_LIMIT ≡ 32768 }
     ensures reserve { RESERVE ≡ 8192 }
@@ -26,8 +30,15 @@ pub fn each_line_is_logged_or_counted()
     ensures { EachLineIsLoggedOrCounted }
 {}
 
-/// In each minute the first two losses of a driver are logged, within the lines of their second. A
-/// minute counts only its own losses, whatever seconds the clock skipped.
-pub fn losses_are_logged_in_their_minute()
-    ensures { LossesAreLoggedInTheirMinute }
+/// A minute counts only its own lines, whatever seconds the clock skipped. However many there were,
+/// a status of a UPS with OB or LB is logged while fewer than nine lines of this UPS were in its
+/// second.
+pub fn minutes_are_apart()
+    ensures { MinutesAreApart }
+{}
+
+/// Whatever others do, each first order of a user at a UPS has its line in its second: of 64
+/// different ones, and each forced shutdown beyond them.
+pub fn first_orders_are_logged()
+    ensures { FirstOrdersAreLogged }
 {}

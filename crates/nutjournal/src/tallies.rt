@@ -1,31 +1,47 @@
-//! The tallies of all UPSs and addresses.
-ghost use Rattle.std.specs.Prelude.{◌≡◌, ◌≤◌, map};
+//! The tallies of all UPSs, of what users did, and of what any client may cause.
+ghost use Rattle.std.specs.Prelude.{◌≡◌, ◌≤◌, ◌&&◌, map};
 ghost use Rattle.std.specs.List.{list_any};
 ghost use Rattle.nutjournal.specs.Tally.{after_second, has_more, is_logged};
-ghost use Rattle.nutjournal.specs.Tallies.{after_line_of, after_second_of, is, place_of, tally_of, with_address};
+ghost use Rattle.nutjournal.specs.Tallies.{after_address, after_line_of, after_second_of, clients_after_second, is, is_first_order, is_known, is_line_logged, is_order_of, order_of, place_of, tally_of_address, with_address, with_order};
 
 use crate::tally::{Kind, Tally};
 use arrayvec::ArrayVec;
-use nutwords::Address;
+use nutcore::{Deed, Verb};
+use nutusers::UserName;
+use nutwords::{Address, Name, UpsName};
 
 /// The most addresses that have a tally of their own. All others have one together, the last one.
 pub const ADDRESS_COUNT: usize = 64;
 
-/// What a line is of: the UPS of a place, or a client of an address.
+/// Of so many different orders the first of a second is logged, whatever came before it: some
+/// minutes' work of a user who types.
+pub const ORDER_COUNT: usize = 64;
+
+/// The most lines in a second of what any client may cause, of all addresses together: nobody needs
+/// a password for them.
+pub const REFUSAL_LIMIT: u64 = 30;
+
+/// What a line is of: the UPS of a place; what a user did at an address, or ordered; or what any
+/// client of an address may cause.
 #[derive(Clone, Copy)]
 pub enum Of<'a> {
     Ups(u8),
+    User(&'a Address),
+    Order(&'a Deed),
     Client(&'a Address),
 }
 
-/// The lines of this second.
+/// The lines of this second and of this minute.
 #[derive(Drop)]
 pub struct Tallies {
     /// By the places of the UPSs. Each place is a byte.
     pub upses: [Tally; 256],
-    /// The addresses of clients, and the tallies by their places among them.
-    pub addresses: ArrayVec<Option<Address>, ADDRESS_COUNT>,
-    pub clients: [Tally; ADDRESS_COUNT + 1],
+    pub users: Clients,
+    pub clients: Clients,
+    /// The orders of this second, each once.
+    orders: ArrayVec<Option<GivenOrder>, ORDER_COUNT>,
+    /// How many lines of what any client may cause were logged in this second.
+    refusals: u64,
 }
 
 impl Tallies {
@@ -33,35 +49,139 @@ impl Tallies {
     pub fn new() -> Tallies {
         Tallies {
             upses: [Tally::default(); 256],
-            addresses: ArrayVec::new(),
-            clients: [Tally::default(); ADDRESS_COUNT + 1],
+            users: Clients::new(),
+            clients: Clients::new(),
+            orders: ArrayVec::new(),
+            refusals: 0,
         }
     }
 
-    /// Whether a line of this kind is logged. If not, it is counted.
+    /// Whether a line of this kind is logged. If not, it is counted. Of an order the first line of
+    /// a second is.
     pub fn takes(&mut self, of: Of<'_>, kind: Kind) -> bool
-        ensures logged { result ≡ is_logged (tally_of of.entry self.old) kind }
+        ensures logged { result ≡ is_line_logged of.entry kind self.old }
         ensures after { self.new ≡ after_line_of of.entry kind self.old }
     {
         match of {
-            Of::Ups(place) => self.upses[place as usize].takes(kind),
+            Of::Ups(place) => self.upses[place as usize].takes(kind, true),
+            Of::User(address) => self.users.takes(address, kind, true),
+            Of::Order(deed) => {
+                self.is_first(deed) || self.users.takes(&deed.who.address, kind, true)
+            }
             Of::Client(address) => {
-                let place = self.place_for(address);
-                self.clients[place].takes(kind)
+                let has_room = self.refusals < REFUSAL_LIMIT;
+                let is_logged = self.clients.takes(address, kind, has_room);
+                if is_logged {
+                    self.refusals += 1;
+                }
+                is_logged
             }
         }
     }
 
-    /// A second begins, perhaps the first one of a minute, of so many UPSs, and of the addresses
-    /// that had lines. The other tallies have counted nothing.
+    /// Whether it is the first such order of this second. A forced shutdown is, even where there
+    /// is no room to keep it.
+    fn is_first(&mut self, deed: &Deed) -> bool
+        ensures first { result ≡ is_first_order deed.now self.old.orders.items }
+        ensures kept { self.new ≡ record self.old {
+          orders = record { items = with_order deed.now self.old.orders.items };
+        } }
+    {
+        if is_any_of(self.orders.as_slice(), deed) {
+            return false;
+        }
+        let order = Some(GivenOrder::of(deed));
+        self.orders.try_push(order).is_ok() || matches!(deed.verb, Verb::Fsd)
+    }
+
+    /// A second begins, perhaps the first one of a minute, of so many UPSs. The other tallies have
+    /// counted nothing.
     pub fn next_second(&mut self, count: usize, is_minute: bool)
         requires { count ≤ 256 }
         ensures { self.new ≡ after_second_of count is_minute self.old }
     {
         begin_second(&mut self.upses[..count], is_minute);
+        self.users.next_second(is_minute);
+        self.clients.next_second(is_minute);
+        self.orders.clear();
+        self.refusals = 0;
+    }
+}
+
+/// An order: whose it is, at which UPS, and what is asked for.
+#[derive(Drop)]
+pub struct GivenOrder {
+    user: Option<UserName>,
+    ups: Option<UpsName>,
+    verb: Verb,
+    name: Option<Name>,
+}
+
+impl GivenOrder {
+    fn of(deed: &Deed) -> GivenOrder
+        ensures { result ≡ order_of deed.now }
+    {
+        GivenOrder {
+            user: deed.who.user.as_ref().map(|text| text.copied()),
+            ups: deed.ups.as_ref().map(|text| text.copied()),
+            verb: deed.verb,
+            name: deed.name.as_ref().map(|text| text.copied()),
+        }
+    }
+
+    fn is_of(&self, deed: &Deed) -> bool
+        ensures { result ≡ is_order_of deed.now self.now }
+    {
+        self.user == deed.who.user
+            && self.ups == deed.ups
+            && self.verb as u8 == deed.verb as u8
+            && self.name == deed.name
+    }
+}
+
+/// Whether one of these orders is this.
+fn is_any_of(orders: &[Option<GivenOrder>], deed: &Deed) -> bool
+    ensures { result ≡ is_known deed.now orders.now }
+{
+    orders
+        .iter()
+        .any(|order| matches!(order, Some(order) if order.is_of(deed)))
+}
+
+/// The tallies of clients by their addresses, which are kept for a minute.
+#[derive(Drop)]
+pub struct Clients {
+    pub addresses: ArrayVec<Option<Address>, ADDRESS_COUNT>,
+    pub tallies: [Tally; ADDRESS_COUNT + 1],
+}
+
+impl Clients {
+    fn new() -> Clients {
+        Clients {
+            addresses: ArrayVec::new(),
+            tallies: [Tally::default(); ADDRESS_COUNT + 1],
+        }
+    }
+
+    /// Whether a line of this kind is logged of the address, where the others leave it room. If
+    /// not, it is counted.
+    fn takes(&mut self, address: &Address, kind: Kind, has_room: bool) -> bool
+        ensures logged { result
+            ≡ is_logged has_room (tally_of_address address.now self.old) kind }
+        ensures after { self.new ≡ after_address has_room address.now kind self.old }
+    {
+        let place = self.place_for(address);
+        self.tallies[place].takes(kind, has_room)
+    }
+
+    fn next_second(&mut self, is_minute: bool)
+        ensures { self.new ≡ clients_after_second is_minute self.old }
+    {
         let used = self.addresses.len() + 1;
-        begin_second(&mut self.clients[..used], true);
-        self.addresses.clear();
+        begin_second(&mut self.tallies[..used], is_minute);
+        if is_minute {
+            self.addresses.clear();
+        }
     }
 
     /// The place of an address, which is added where it has none and there is room.

@@ -1,5 +1,5 @@
-//! How many lines of a UPS, or of the clients of an address, are logged in a second. All more are
-//! counted.
+//! How many lines of a UPS, or of the clients of an address, are logged in a second and in a
+//! minute. All more are counted.
 ghost use Rattle.std.specs.Prelude.{◌≡◌};
 ghost use Rattle.nutjournal.specs.Tally.{after_count, after_line, after_second, begins_minute, has_more, is_behind, is_logged, is_restless, limit_of, more_counted, priority_of, reported};
 
@@ -15,8 +15,9 @@ pub const ALARM_LIMIT: u64 = 9;
 /// The most lines in a second before any other line.
 pub const PLAIN_LIMIT: u64 = 8;
 
-/// How often a driver is lost in a minute before its coming and going is only counted.
-pub const LOSS_LIMIT: u64 = 2;
+/// After so many lines in a minute only alarms and orders are logged. All else is counted up to the
+/// next minute, so that a year of lines fits into the system's journal.
+pub const MINUTE_LIMIT: u64 = 20;
 
 /// In seconds.
 pub const MINUTE: u64 = 60;
@@ -66,26 +67,26 @@ pub enum Kind {
 /// How many kinds there are.
 const KIND_COUNT: usize = 18;
 
-/// The kinds: their texts, their priorities, and how many lines in a second may be before one.
-static KINDS: [(&str, u8, u64); KIND_COUNT] = [
-    ("driver lost", WARNING, PLAIN_LIMIT),
-    ("driver connected", INFO, PLAIN_LIMIT),
-    ("data good", INFO, PLAIN_LIMIT),
-    ("data stale", WARNING, ALARM_LIMIT),
-    ("status", INFO, PLAIN_LIMIT),
-    ("status with OB or LB", WARNING, ALARM_LIMIT),
-    ("status with OB and LB", CRITICAL, ALARM_LIMIT),
-    ("logged in", INFO, PLAIN_LIMIT),
-    ("logged out", INFO, PLAIN_LIMIT),
-    ("orders", NOTICE, ALARM_LIMIT),
-    ("forced shutdowns", CRITICAL, LINE_LIMIT),
-    ("refused LOGIN", INFO, PLAIN_LIMIT),
-    ("refused orders", INFO, PLAIN_LIMIT),
-    ("denied LOGIN or rights", WARNING, PLAIN_LIMIT),
-    ("orders with an empty value", WARNING, ALARM_LIMIT),
-    ("silent and closed", INFO, PLAIN_LIMIT),
-    ("gave way", WARNING, PLAIN_LIMIT),
-    ("refused statuses", WARNING, ALARM_LIMIT),
+/// All kinds.
+const KINDS: [Kind; KIND_COUNT] = [
+    Kind::Lost,
+    Kind::Awaited,
+    Kind::Good,
+    Kind::Stale,
+    Kind::Status,
+    Kind::Alarm,
+    Kind::LowBattery,
+    Kind::LoggedIn,
+    Kind::LoggedOut,
+    Kind::Order,
+    Kind::ForcedShutdown,
+    Kind::RefusedLogin,
+    Kind::RefusedOrder,
+    Kind::Denied,
+    Kind::EmptyOrder,
+    Kind::Silent,
+    Kind::GaveWay,
+    Kind::RefusedStatus,
 ];
 
 impl Kind {
@@ -94,15 +95,34 @@ impl Kind {
         ensures priority { result.1 ≡ priority_of self }
         ensures limit { result.2 ≡ limit_of self }
     {
-        KINDS[self as usize]
+        match self {
+            Kind::Lost => ("driver lost", WARNING, PLAIN_LIMIT),
+            Kind::Awaited => ("driver connected", INFO, PLAIN_LIMIT),
+            Kind::Good => ("data good", INFO, PLAIN_LIMIT),
+            Kind::Stale => ("data stale", WARNING, PLAIN_LIMIT),
+            Kind::Status => ("status", INFO, PLAIN_LIMIT),
+            Kind::Alarm => ("status with OB or LB", WARNING, ALARM_LIMIT),
+            Kind::LowBattery => ("status with OB and LB", CRITICAL, ALARM_LIMIT),
+            Kind::LoggedIn => ("logged in", INFO, PLAIN_LIMIT),
+            Kind::LoggedOut => ("logged out", INFO, PLAIN_LIMIT),
+            Kind::Order => ("orders", NOTICE, ALARM_LIMIT),
+            Kind::ForcedShutdown => ("forced shutdowns", CRITICAL, LINE_LIMIT),
+            Kind::RefusedLogin => ("refused LOGIN", INFO, PLAIN_LIMIT),
+            Kind::RefusedOrder => ("refused orders", INFO, PLAIN_LIMIT),
+            Kind::Denied => ("denied LOGIN or rights", WARNING, PLAIN_LIMIT),
+            Kind::EmptyOrder => ("orders with an empty value", WARNING, ALARM_LIMIT),
+            Kind::Silent => ("silent and closed", INFO, PLAIN_LIMIT),
+            Kind::GaveWay => ("gave way", WARNING, PLAIN_LIMIT),
+            Kind::RefusedStatus => ("refused statuses", WARNING, PLAIN_LIMIT),
+        }
     }
 }
 
 /// What was logged of a UPS, or of the clients of an address.
 #[derive(Clone, Copy, Default)]
 pub struct Tally {
-    /// How often the driver was lost in this minute.
-    losses: u64,
+    /// How many lines were logged in this minute.
+    lines: u64,
     /// How many lines were logged in this second.
     logged: u64,
     /// How many more there were of each kind, since that was last reported.
@@ -110,19 +130,18 @@ pub struct Tally {
 }
 
 impl Tally {
-    /// Whether a line of this kind is logged. If it isn't, it is counted.
-    pub fn takes(&mut self, kind: Kind) -> bool
-        ensures logged { result ≡ is_logged self.old kind }
-        ensures after { self.new ≡ after_line self.old kind }
+    /// Whether a line of this kind is logged, where the others leave it room. If it isn't, it is
+    /// counted.
+    pub fn takes(&mut self, kind: Kind, has_room: bool) -> bool
+        ensures logged { result ≡ is_logged has_room self.old kind }
+        ensures after { self.new ≡ after_line has_room self.old kind }
     {
-        if matches!(kind, Kind::Lost) {
-            self.losses = self.losses.saturating_add(1);
-        }
         let (_, _, limit) = kind.row();
         let is_held = self.is_restless() && limit == PLAIN_LIMIT;
-        let is_logged = self.logged < limit && !is_held;
+        let is_logged = has_room && self.logged < limit && !is_held;
         if is_logged {
             self.logged += 1;
+            self.lines = self.lines.saturating_add(1);
         } else {
             let place = kind as usize;
             self.more[place] = self.more[place].saturating_add(1);
@@ -130,15 +149,15 @@ impl Tally {
         is_logged
     }
 
-    /// Whether the driver was lost too often in this minute.
+    /// Whether only alarms and orders are logged up to the next minute.
     fn is_restless(&self) -> bool
         ensures { result ≡ is_restless self.now }
     {
-        self.losses > LOSS_LIMIT
+        self.lines >= MINUTE_LIMIT
     }
 
-    /// The lines that were counted, where they are to be reported now: those of a driver that was
-    /// lost too often are once a minute.
+    /// The lines that were counted, where they are to be reported now: after too many lines they are
+    /// once a minute.
     pub fn reported(&self, is_minute: bool) -> Tally
         ensures { result.more ≡ reported self.now is_minute }
     {
@@ -156,7 +175,7 @@ impl Tally {
     {
         let is_reported = is_minute || !self.is_restless();
         Tally {
-            losses: if is_minute { 0 } else { self.losses },
+            lines: if is_minute { 0 } else { self.lines },
             logged: 0,
             more: if is_reported {
                 [0; KIND_COUNT]
@@ -175,20 +194,18 @@ impl Tally {
 
     /// The priority of the most urgent line that was counted, if one was.
     pub fn priority(&self) -> Option<u8> {
-        let rows = KINDS.iter().zip(&self.more);
-        rows.filter(|(_, count)| **count > 0)
-            .map(|(row, _)| row.1)
-            .min()
+        let counted = KINDS.iter().filter(|kind| self.more[**kind as usize] > 0);
+        counted.map(|kind| kind.row().1).min()
     }
 }
 
 impl fmt::Display for Tally {
     fn fmt<W: Write>(&self, f: &mut Formatter<W>) -> fmt::Result {
         let mut comma = "";
-        for place in 0..KINDS.len() {
-            let count = self.more[place];
+        for kind in KINDS {
+            let count = self.more[kind as usize];
             if count > 0 {
-                write!(f, "{comma}{count} {}", KINDS[place].0)?;
+                write!(f, "{comma}{count} {}", kind.row().0)?;
                 comma = ", ";
             }
         }

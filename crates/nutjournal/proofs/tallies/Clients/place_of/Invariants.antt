@@ -1,6 +1,6 @@
 use Rattle.std.proofs.Common.{◌≡◌, ◌+◌, drop}
 use Rattle.nutjournal.specs.Tallies.{place_of}
-use Rattle.nutjournal.proofs.tallies.Tallies.place_of.Given as goal
+use Rattle.nutjournal.proofs.tallies.Clients.place_of.Given as goal
 
 -- none so far is this address
 abbrev pub invariant-loop-place : goal.invariant-loop-place
