@@ -901,15 +901,18 @@ def clients_that_left_are_closed_at_their_end_or_after_two_ticks():
 
 
 def clients_that_left_and_send_without_end_are_closed():
-    """After two ticks, as all are. Then there is nothing to do."""
+    """After two ticks, as all are, by LOGOUT or by a line that is too long. Then there is nothing to do."""
     with served() as (server, _, _):
         before = server.descriptors()
-        clients = [server.client() for _ in range(3)]
-        assert all(client.ask(b"LOGOUT\n") == b"OK Goodbye\n" for client in clients)
-        with pouring(clients, b"VER\n" * 10_000):
-            assert comes(lambda: server.descriptors() == before, 4), f"{server.descriptors() - before} are still read"
-            worked = server.worked(1)
-        assert worked < 0.1 * serving.SLOWER, f"it worked {worked:.2f} s"
+        for text, last in ((b"LOGOUT\n", b"OK Goodbye\n"), (b"x" * CLIENT_READ, b"ERR TOO-LONG\n")):
+            clients = [server.client() for _ in range(3)]
+            for client in clients:
+                client.send(text)
+            assert all(client.line() == last for client in clients)
+            with pouring(clients, b"VER\n" * 10_000):
+                assert comes(lambda: server.descriptors() == before, 4), f"{server.descriptors() - before} are still read"
+                worked = server.worked(1)
+            assert worked < 0.1 * serving.SLOWER, f"it worked {worked:.2f} s"
 
 
 def what_clients_send_after_their_end_is_read():

@@ -1,13 +1,13 @@
 #!/usr/bin/env python3
 """Measures what a request costs this server and NUT's, and prints the tables of docs/COSTS.md.
 
-usage: tools/costs.py [--write] [speed | time | instructions | memory | idle ..]     measures these, or all
-       tools/costs.py --picture | --check                                             measures nothing
+usage: tools/costs.py [--write] [speed | time | instructions | turns | memory | idle ..]     measures these, or all
+       tools/costs.py --picture | --check                                                     measures nothing
 
 --write puts the tables into docs/COSTS.md, with the machine and the commit, and draws the pictures anew. --picture draws them of the
 tables that stand there: docs/costs.svg, and docs/costs-small.svg for README. --check ends with status 1 where they are others.
 
-Measuring takes about 25 minutes on a machine that does nothing else, and needs the built upsd and crates/netbench (`rt run` in each),
+Measuring takes about 30 minutes on a machine that does nothing else, and needs the built upsd and crates/netbench (`rt run` in each),
 NUT's upsd (Debian's nut-server) and valgrind. Speed is the median of rounds in which the servers take turns.
 """
 import contextlib
@@ -29,6 +29,7 @@ import time
 TOP = pathlib.Path(__file__).resolve().parent.parent
 sys.path.insert(0, str(TOP / "tests"))
 sys.dont_write_bytecode = True
+os.environ["EMULATED"] = "20"  # under valgrind all takes as long as on another machine
 
 from serving import Driver, OtherServer, pouring  # noqa: E402
 
@@ -53,13 +54,16 @@ def reports(count, width):
 
 
 @contextlib.contextmanager
-def served(kind, sizes, valgrind=(), max_age=3600):
-    """Ours or NUT's server, and its drivers, each of which has reported variables of its size."""
+def served(kind, sizes, valgrind=(), max_age=3600, users=0, missing=0):
+    """Ours or NUT's server, and its drivers, each of which has reported variables of its size. So many users may do nothing, and of so
+    many UPSs more the driver is missing."""
     with contextlib.ExitStack() as stack:
         folder = stack.enter_context(tempfile.TemporaryDirectory())
         drivers = {name: Driver(f"{folder}/dummy-ups-{name}") for name in sizes}
-        open(f"{folder}/upsd.users", "w", encoding="utf-8").close()
-        server = OtherServer([*valgrind, *COMMANDS[kind]], folder, dict.fromkeys(sizes, ""), max_age)
+        with open(f"{folder}/upsd.users", "w", encoding="utf-8") as file:
+            file.writelines(f"[u{number:05}]\npassword = x\n" for number in range(users))
+        upses = [*sizes, *(f"missing{number}" for number in range(missing))]
+        server = OtherServer([*valgrind, *COMMANDS[kind]], folder, dict.fromkeys(upses, ""), max_age)
         stack.callback(server.close)
         for name, driver in drivers.items():
             driver.accept(reports(*sizes[name])[0] + b'SETINFO ups.status "OL"\n')
@@ -76,14 +80,18 @@ def until(server, ups, variable="ups.status", value=b"(?!WAIT)"):
     client.close()
 
 
-def instructions(kind, work, less, more, things):
+def stop(server):
+    server.process.send_signal(signal.SIGTERM)
+    server.process.wait()
+
+
+def instructions(kind, work, less, more, things, users=0):
     """Of one thing more, as callgrind counts them: the difference of two runs, which do the work so many times."""
     counts = []
     for times in (less, more):
-        with served(kind, {"small": (4096, 10)}, CALLGRIND) as (server, drivers):
+        with served(kind, {"small": (4096, 10)}, CALLGRIND, users=users) as (server, drivers):
             work(server, drivers["small"], times)
-            server.process.send_signal(signal.SIGTERM)
-            server.process.wait()
+            stop(server)
             counts.append(int(re.search(r"Collected : (\d+)", server.journal())[1]))
     return (counts[1] - counts[0]) // things
 
@@ -101,11 +109,71 @@ def asking(connections, line, end):
     return work
 
 
+def refused(users):
+    """The last one of so many users sets a variable, and may not."""
+    def work(server, _, times):
+        client = server.client()
+        client.ask(b"USERNAME u%05d\nPASSWORD x\n" % (users - 1))
+        for _ in range(times):
+            assert client.ask(b"SET VAR small v2048 1\n").startswith(b"ERR ")
+    return work
+
+
 def reporting(server, driver, times, size=(4096, 10)):
     for text in (reports(*size) * times)[1 : times + 1]:
         driver.send(text)
     driver.send(b'SETINFO last.one "1"\n')
     until(server, "small", "last.one")
+
+
+def dearest(call, work, **of):
+    """How many instructions the dearest of these calls of our server took in this work."""
+    with tempfile.TemporaryDirectory() as folder:
+        words = ["valgrind", "--tool=callgrind", f"--callgrind-out-file={folder}/part", f"--toggle-collect={call}", f"--dump-after={call}"]
+        with served("ours", valgrind=words, **of) as (server, drivers):
+            work(server, drivers)
+            stop(server)
+        parts = [part.read_text(encoding="utf-8") for part in pathlib.Path(folder).glob("part*")]
+        return max(int(re.search(r"^totals: (\d+)", part, re.M)[1]) for part in parts)
+
+
+def stops_in_listing(server, driver):
+    """A client that stops within a listing, after which all values change."""
+    client = server.client()
+    client.send(LONG)
+    driver.send(reports(*SIZES["large"])[1])
+    until(server, "large", "v4095", b"y")
+    return client
+
+
+def leaves(server, drivers):
+    stops_in_listing(server, drivers["large"]).close()
+    time.sleep(2)
+
+
+def takes_all(server, drivers):
+    client = stops_in_listing(server, drivers["large"])
+    while client.line() != b"END LIST VAR large\n":
+        pass
+
+
+def is_lost(_, drivers):
+    drivers["huge"].lose()
+    time.sleep(3)
+
+
+def is_lost_with_enum_values(server, drivers):
+    for number in range(1100):
+        drivers["huge"].send(b"".join(b"ADDENUM v%04d %d\n" % (number, value) for value in range(256)))
+    drivers["huge"].send(b'SETINFO last.one "1"\n')
+    until(server, "huge", "last.one")
+    is_lost(server, drivers)
+
+
+def sets_at_once(server, _):
+    client = server.client()
+    client.ask(b"USERNAME u00000\nPASSWORD x\n")
+    client.ask(b"SET VAR small v2048 1\n" * 97)
 
 
 def memory(kind, clients, changes=False):
@@ -280,8 +348,8 @@ MEANWHILE = {
     "1 client sends empty lines": lambda server, *_: beside(clients(server, 1), b"\n" * 65536),
     "40 clients send lines that are too long": lambda server, *_: again_and_again(server),
 } | {
-    f"{count} client{'s ask' if count > 1 else ' asks'} `{text[:text.index(b' large')].decode()}` without pause": lambda server, *_, text=text, count=count: beside(clients(server, count), text)
-    for text in (RW, CMD) for count in (1, 10, 40)
+    f"{count} clients ask `{text[:text.index(b' large')].decode()}` without pause": lambda server, *_, text=text, count=count: beside(clients(server, count), text)
+    for text in (RW, CMD) for count in (10, 40)
 }  # fmt: skip
 
 
@@ -365,6 +433,22 @@ def instruction_rows():
     )])
 
 
+def turn_rows():
+    yield from ("turn | instructions", "---|---:")
+    large, small = {"large": SIZES["large"]}, {"small": SIZES["small"]}
+    for what, count in {
+        "1,024 nodes of a lost driver's variables": dearest("*Server::forget", is_lost, sizes={"huge": (HUGE[0] - 1, 10)}),
+        "the same, with 256 enum values each": dearest("*Server::forget", is_lost_with_enum_values, sizes={"huge": (1100, 10)}),
+        "1,024 nodes that one client's listing kept": dearest("*Server::forget", leaves, sizes=large),
+        "that listing's last bytes": dearest("*Server::step", takes_all, sizes=large),
+        "trying 31 missing drivers": dearest("*drivers::connect*", lambda *_: time.sleep(3), sizes=small, missing=31),
+        "the journal, after 97 refused `SET VAR`": dearest("*Journal::write*", sets_at_once, sizes=small, users=4),
+    }.items():
+        yield f"{what} | {count:,}"
+    few, many = (instructions("ours", refused(users), 10, 1010, 1000, users) for users in (4, 10_000))
+    yield f"a refused `SET VAR`, with 4 users; 10,000 | {few:,}; {many:,}"
+
+
 def memory_rows():
     yield from table("KiB", [(what, *(memory(kind, count) for kind in COMMANDS))
                              for what, count in (("no client", 0), ("60 clients that stop within a listing", 60))])  # fmt: skip
@@ -379,7 +463,7 @@ def idle_rows():
 # The page, and its pictures.
 
 PAGE = TOP / "docs" / "COSTS.md"
-TABLES = {"speed": speed_rows, "time": time_rows, "instructions": instruction_rows, "memory": memory_rows, "idle": idle_rows, "machine": machine}
+TABLES = {"speed": speed_rows, "time": time_rows, "instructions": instruction_rows, "turns": turn_rows, "memory": memory_rows, "idle": idle_rows, "machine": machine}
 SMALL = ("nothing", "10 clients ask", "LIST VAR of 4,096")
 COLOURS = {"ours": "#0a53a8", "NUT's": "#9a3412"}
 LEFT, WIDE, TALL, TOP_OF = 330, 400, 15, 64
