@@ -276,7 +276,7 @@ def guess(server):
 
 
 def of_a_flood_each_line_is_logged_or_counted():
-    """Few are logged, whatever floods the journal. a_driver_that_comes_and_goes_is_logged_once_a_minute has one more."""
+    """Few are logged, whatever floods the journal: what is counted may wait for the minute."""
     for flood, *wanted in [
             (lambda server, driver, good: driver.send(b'SETINFO ups.status "OB"\nSETINFO ups.status "OL"\n' * 100),
              ("status OB", "status with OB or LB", 100), ("status OL", "status", 101)),
@@ -287,7 +287,7 @@ def of_a_flood_each_line_is_logged_or_counted():
             begin = time.monotonic()
             flood(server, driver, good)
             for line, kind, count in wanted:
-                assert comes(lambda: sum(parts_of(server, line, kind)) == count, 3), (line, parts_of(server, line, kind))  # noqa: B023
+                assert comes(lambda: sum(parts_of(server, line, kind)) == count, 62), (line, parts_of(server, line, kind))  # noqa: B023
             most = 12 * (time.monotonic() - begin + 2)
             assert sum(parts_of(server, *wanted[0][:2])) > parts_of(server, *wanted[0][:2])[0], "nothing is counted"
             assert server.journal().count("\n") <= most, (most, server.journal())
