@@ -202,12 +202,11 @@ def passwords():
 
 def no_passwords(words):
     """A file that can't be read is named, and one that isn't a password is a bad argument. No server is looked for."""
-    rule = next(rule for rule in UNLAWFUL if rule.startswith("PASS"))
     BENCH.file("led", b"")
     unread = [(f"{LED}-absent", "No such file or directory"), (BENCH.folder.name, "Is a directory"),
               (BENCH.file("binary", b"\xff\n"), "stream did not contain valid UTF-8")]  # fmt: skip
     for content in b"", b"\n", b"two\nlines\n", b"with CR\r\n", b"w" * 257, b"w" * 1000:
-        check_end(words, start((*words, "--password-file", BENCH.file("password", content)), {"LEAD_TO": "1"}), 2, ARGUMENT, rule)
+        check_end(words, start((*words, "--password-file", BENCH.file("password", content)), {"LEAD_TO": "1"}), 2, ARGUMENT, PASSWORD)
     for path, why in unread:
         check_end(words, start((*words, "--password-file", path), {"LEAD_TO": "1"}), 2, f"{path}: {why}", "")
     assert os.path.getsize(LED) == 0, "a server was looked for"
@@ -243,22 +242,46 @@ REFUSING = "127.0.0.2"
 TWO_ADDRESSES = [("su", ["look up localhost", f"connect {REFUSING}:3493", "connect 127.0.0.1:3493"])]
 
 USER = ("-u", "u", "-p", "p", "su")
-# Words, by what the wrong one has to be.
+# Words, by what is wrong with them.
+NAME, HOST = "not 1 to 64 letters, digits, . - _", "not 1 to 255 letters, digits, . and -"
+PORT, IPV6 = "not 1 to 65535 without leading zeros", "an IPv6 address needs a host name, as /etc/hosts gives one"
+NO_ID, SETTING = "not one that --track printed", "not a name, = and a value of at most 512 bytes"
+BYTES = "not {} bytes, none of them a control character"
+PASSWORD = f"PASS: {BYTES.format('1 to 256')}"
+LONG = "v" * (VALUE + 1)
 UNLAWFUL = {
-    "UPS has to be ups[@host[:port]], with a host of letters, digits, . and -":
-        [("upsc", ups) for ups in ("", "su@", "bad name", "su@ho_st", "su@ho_st:1", "bad name@host:0")] + [("upscmd", "-l", "su@a b")],
-    "HOST has to be host[:port], with a host of letters, digits, . and -": [("upsc", "-l", "ho_st"), ("upsc", "-L", "ho_st:x")],
-    "the port has to be 1 to 65535, without leading zeros":
-        [("upsc", "su@host:65536"), ("upsc", "su@host:"), ("upsrw", "su@host:0"), ("upscmd", "-l", "su@host:03493"), ("upsc", "-L", "host:x")],
-    "an IPv6 address needs a host name, as /etc/hosts gives one":
-        [("upsc", "su@::1"), ("upsc", "su@[::1]:3493"), ("upscmd", "-l", "su@fe80::1%eth0"), ("upsc", "-l", "[::1]"), ("upsc", "-L", "2001:db8::7")],
-    "VAR has to be 1 to 64 letters, digits, . - _": [("upsc", "su", "a/b")],
-    "CMD has to be 1 to 64 letters, digits, . - _": [("upscmd", *USER, "load/off")],
-    "ID has to be one that --track printed": [("upsc", "--tracked", text, "su") for text in (ID[:-1], ID.replace("-", ""), "{" + ID + "}")],
-    "VAR=VALUE has to be a name, = and a value of at most 512 bytes": [("upsrw", "-s", setting, *USER) for setting in ("a", "a=" + "v" * (VALUE + 1))],
-    "VALUE has to be at most 512 bytes, none of them a control character": [("upscmd", *USER, "a", value) for value in ("\n", "v" * (VALUE + 1))],
-    "USER has to be 1 to 64 bytes, none of them a control character": [("upscmd", "-u", user, "-p", "p", "su", "a") for user in ("", "u" * 65)],
-    "PASS has to be 1 to 256 bytes, none of them a control character": [("upsrw", "-s", "a=b", "-u", "u", "-p", word, "su") for word in ("", "\x1b[31m")],
+    "UPS: not 1 to 32 letters, digits, . - _": [("upsc", "")],
+    "UPS bad name: not 1 to 32 letters, digits, . - _": [("upsc", "bad name"), ("upsc", "bad name@host:0"), ("upscmd", "-l", "bad name@a b")],
+    "UPS b\\xc3\\xa4y\\x1b: not 1 to 32 letters, digits, . - _": [("upsc", "bäy\x1b")],
+    f"host: {HOST}": [("upsc", "su@")],
+    f"host ho_st: {HOST}": [("upsc", "su@ho_st"), ("upsc", "su@ho_st:1"), ("upsc", "-l", "ho_st"), ("upsc", "-L", "ho_st:x")],
+    f"port 99999: {PORT}": [("upsc", "su@host:99999")],
+    f"port 0: {PORT}": [("upsrw", "su@host:0")],
+    f"port 03493: {PORT}": [("upscmd", "-l", "su@host:03493")],
+    f"port: {PORT}": [("upsc", "su@host:")],
+    f"port x: {PORT}": [("upsc", "-L", "host:x")],
+    f"address ::1: {IPV6}": [("upsc", "su@::1")],
+    f"address [::1]:3493: {IPV6}": [("upsc", "su@[::1]:3493"), ("upsc", "-l", "[::1]:3493")],
+    f"address fe80::1%eth0: {IPV6}": [("upscmd", "-l", "su@fe80::1%eth0"), ("upsc", "-L", "fe80::1%eth0")],
+    f"VAR a/b: {NAME}": [("upsc", "su", "a/b")],
+    f"CMD load/off: {NAME}": [("upscmd", *USER, "load/off")],
+    f"ID {ID[:-1]}: {NO_ID}": [("upsc", "--tracked", ID[:-1], "su")],
+    f"ID {{{ID}}}: {NO_ID}": [("upsc", "--tracked", "{" + ID + "}", "su")],
+    f"VAR=VALUE a: {SETTING}": [("upsrw", "-s", "a", *USER)],
+    f"VAR=VALUE a={LONG[:98]}: {SETTING}": [("upsrw", "-s", f"a={LONG}", *USER)],
+    f"VALUE \\n: {BYTES.format('at most 512')}": [("upscmd", *USER, "a", "\n")],
+    f"VALUE {LONG[:100]}: {BYTES.format('at most 512')}": [("upscmd", *USER, "a", LONG)],
+    f"USER: {BYTES.format('1 to 64')}": [("upscmd", "-u", "", "-p", "p", "su", "a")],
+    f"USER {'u' * 65}: {BYTES.format('1 to 64')}": [("upscmd", "-u", "u" * 65, "-p", "p", "su", "a")],
+    PASSWORD: [("upsrw", "-s", "a=b", "-u", "u", "-p", word, "su") for word in ("", "\x1b[31m")],
+    "words: not UPS [VAR], -l|-L [HOST], -c|--attached UPS or --tracked ID UPS":
+        [("upsc", *words.split()) for words in ("", "-c", "-l -L", "-l localhost ups.status", "--attached", "--attached -c su", "--attached su ups.status",
+                                                *(f"--tracked {ID}{more}" for more in ("", " -l", " -c su", " --attached su", " su ups.status")))],
+    "words: not UPS or -s VAR=VALUE -u USER -p PASS|--password-file FILE [--track] UPS":
+        [("upsrw", *words.split()) for words in ("-s ups.delay=30 su", "-u admin su", "--track su", f"--password-file {LED} su",
+                                                 f"-s a=b -u admin --password-file {LED} --password-file=led su")],
+    "words: not -l UPS or -u USER -p PASS|--password-file FILE [--track] UPS CMD [VALUE]":
+        [("upscmd", *words.split()) for words in ("su load.off", "-l su load.off", "--track -l su", "--track -u admin -p pw su", "-u admin -p pw su")],
 }  # fmt: skip
 
 
@@ -273,18 +296,16 @@ def check_unlawful(wrong):
 
 
 WRONG_WORDS = {
-    "upsc": ["su ups.status more", "-c", "-l -L", "-l localhost ups.status", "--password-file led su", "--attached", "--attached -c su", "--attached su ups.status", "--tracked",
-             *(f"--tracked {ID}{more}" for more in ("", " -l", " -c su", " --attached su", " su ups.status"))],
-    "upsrw": ["-s ups.delay=30 su", "-u admin su", "--track su", "--password-file led su", "-s a=b -u admin su --password-file",
-              "-s a=b -u admin -p pw --password-file led su", "-s a=b -u admin --password-file led --password-file=led su"],
-    "upscmd": ["su load.off", "-l su load.off", "--track -l su", "--track -u admin -p pw su", "-u admin -p pw su"],
-}  # fmt: skip
+    "upsc": ["su ups.status more", "--password-file led su", "--tracked"],
+    "upsrw": ["", "-s a=b -u admin su --password-file", f"-s a=b -u admin -p pw --password-file {LED} su"],
+    "upscmd": ["", "-l su -u"],
+}
 
 
 def other_words():
     """Words that a program doesn't take, and the help."""
     for name, program in PROGRAMS.items():
-        for words in ["", "--nope", *WRONG_WORDS[name]]:
+        for words in ["--nope", *WRONG_WORDS[name]]:
             BENCH.refuses_words(*words.split(), program=program)
         BENCH.prints_help([f"Usage: {name} "], "--help", program=program)
 
@@ -338,7 +359,7 @@ DENIED = "the user or the password is wrong, or the user may not do this"
 
 def closed_streams():
     """What would be printed goes nowhere, and not to the server."""
-    refused = Row(SET, b"OK\nERR ACCESS-DENIED\n", b'USERNAME "admin"\nPASSWORD "s3 cret"\n', fault="server answered ERR ACCESS-DENIED", why=DENIED)
+    refused = Row(SET, b"OK\nERR ACCESS-DENIED\n", b'USERNAME "admin"\nPASSWORD "s3 cret"\n', fault="server answered ERR ACCESS-DENIED", why=f"su ups.delay: {DENIED}")
     listed = Row(("upscmd", "-l", "su"), b"BEGIN LIST CMD su\nCMD su a\nEND LIST CMD su\n", b"LIST CMD su\n", b"a\n")
     for row in Row(LIST, LISTED, ASKED, PRINTED), refused, listed:
         yield from (row._replace(closed=streams) for streams in serving.CLOSED)
@@ -432,10 +453,10 @@ def explained():
     """Faults of each kind: what the server sends, if it is met, the fault, and the line that explains it."""
     for words in LIST, SET, ("upscmd", "-l", "su"):
         yield words, None, "cannot connect", f"{words_server(words)}: Connection refused"
-        yield words, b"ERR ACCESS-DENIED\n", "server answered ERR ACCESS-DENIED", DENIED
+        yield words, b"ERR ACCESS-DENIED\n", "server answered ERR ACCESS-DENIED", f"{'su ups.delay' if words == SET else 'su'}: {DENIED}"
         yield words, b"", EARLY, f"{words_server(words)}: {UNHEARD}"
         yield words, b"\n", BAD, f"{words_server(words)}: no reply of a UPS server came"
-        yield (words[0], *USER[:-1], "a b", "c") if words[0] == "upscmd" else (*words[:-1], "a b"), None, ARGUMENT, next(iter(UNLAWFUL))
+        yield (words[0], *USER[:-1], "a b", "c") if words[0] == "upscmd" else (*words[:-1], "a b"), None, ARGUMENT, "UPS a b: not 1 to 32 letters, digits, . - _"
     yield ("upsc", b"su\xff"), None, ARGUMENT, "a word is not UTF-8"
 
 
@@ -465,7 +486,7 @@ def check_meanings():
         sent, printed, faults, status = meet(row)
         first, _, why = faults.decode().partition("\n")
         assert (sent, printed, first, status) == (ASKED, b"", f"upsc: {row.fault}", 1), (row, faults)
-        assert why.startswith("upsc: the ") and "RFC" not in why and why.count("\n") == 1, (word, why)
+        assert why.startswith("upsc: su: the ") and "RFC" not in why and why.count("\n") == 1, (word, why)
     return f"{len(words)} words"
 
 

@@ -52,7 +52,7 @@ MESSAGES = [
 ]
 FORMS = {"0": "PATH", "1": "LINE", "number": "N", "count": "N", "error": "ERROR", "status": "STATUS", "more": "N KIND, ..", "state": "DATA", "address": "192.0.2.1",
          "to": "198.51.100.1", "why": "REASON", "shown": "BYTES", "seconds": "N", "taken": "N", "most": "N", "SESSION_LIMIT": "64"}  # fmt: skip
-FAULTS = [("crates/nutrequest/src/faults.rt", r'ClientFault::.* => push\(line, b"(.*)"\),', r"\1")]
+FAULTS = [("crates/nutrequest/src/faults.rt", r'ClientFault::.* => \(b"(.*)", b""\),', r"\1")]
 
 
 def said_by(sources):

@@ -81,7 +81,6 @@ class Bench:
     def refuses_words(self, *words, program=None):
         status, printed, faults = self.ends(*words, program=program)
         assert (status, printed, faults[:7]) == (2, b"", b"error: "), (words, status, printed, faults)
-        assert b"tip:" not in faults and b"\n\n\n" not in faults, (words, faults)
 
     def prints_help(self, named, *words, program=None):
         """It prints a help that has each of these texts, in lines of at most 80 columns."""

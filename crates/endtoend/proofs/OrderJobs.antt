@@ -18,7 +18,7 @@ use Rattle.nutrequest.specs.Orders.{is_order}
 use Rattle.nutrequest.specs.Reply.{Refused, reply as client_reply}
 use Rattle.nutrequest.specs.declared.request.Request.{Request}
 use Rattle.nutrequest.specs.declared.request.Request.TheVariants as requests
-use Rattle.nutclient.specs.Job.{JobParts, UpsPlace, job_of, word_of, tracking, login_of, setting_of}
+use Rattle.nutclient.specs.Job.{JobParts, UpsPlace, job_of, word_of, text_in, tracking, login_of, setting_of}
 use Rattle.nutclient.specs.Job.{value_of, ordered, set_request, command_request, set_order, command_order}
 use Rattle.nutclient.specs.Printed.{Prints, printed}
 use Rattle.nutclient.specs.Target.{lawful, ups_place_of}
@@ -169,7 +169,8 @@ tracked user password true =
     All-cons (IsLogin user password) requests.SetTracking [] (login_tracking user password)
     (All-nil (IsLogin user password))
 
-logins : (by : Sender) → IfSome (login_of by) (All (IsLogin by.user.now by.password.now))
+logins : (by : Sender) → IfSome (login_of by.track by.user.now by.password.now)
+    (All (IsLogin by.user.now by.password.now))
 logins by =
     let IsIts = IsLogin by.user.now by.password.now in
     of_both _ (λ u. IsWord USER_LIMIT u × (u ≡ by.user.now))
@@ -188,9 +189,10 @@ logins by =
 -- so is a job of these parts
 job_of_order : (by : Sender) (track : Bool) (ups : List ℕ) (right : Right) (bytes : Option ℕ → List ℕ)
     (target : Target) (order : Request) (job : JobParts) → IsOrderOf track ups right bytes order
-    → ordered (login_of by) (Some (target, order)) ≡ Some job
+    → ordered (login_of by.track by.user.now by.password.now) (Some (target, order)) ≡ Some job
     → IsOrderJob track ups by.user.now by.password.now right bytes job
-job_of_order by track ups right bytes target order job is h = by_login (login_of by) (logins by) h
+job_of_order by track ups right bytes target order job is h =
+    by_login (login_of by.track by.user.now by.password.now) (logins by) h
   where
     by_login : (o : Option (List Request)) → IfSome o (All (IsLogin by.user.now by.password.now))
         → ordered o (Some (target, order)) ≡ Some job
@@ -216,12 +218,14 @@ set_job ups setting by job place name value h p q =
     job_of_order by by.track place.0 rights.Set (set_line name value) place.1
     (set_request by.track place.0 name value) job
     (set_order_of by.track place.0 name value (place_lawful ups.now place p) lawful_set.0 lawful_set.1)
-    (sym (ap (λ (o : Option UpsPlace). ordered (login_of by) (set_order by.track o (setting_of setting.now))) p
-    ∙ ap (λ (o : Option (List ℕ × List ℕ)). ordered (login_of by) (set_order by.track (Some place) o)) q) ∙ h)
+    (sym (ap (λ (o : Option UpsPlace). ordered (login_of by.track by.user.now by.password.now)
+    (set_order by.track o (setting_of setting.now))) p
+    ∙ ap (λ (o : Option (List ℕ × List ℕ)). ordered
+    (login_of by.track by.user.now by.password.now) (set_order by.track (Some place) o)) q) ∙ h)
 
 -- the value of a command, as it is given
 value_same : (value : Option (Bor (List ℕ)))
-    → IfSome (value_of value) (λ v. v ≡ option_map (λ (x : Bor (List ℕ)). x.now) value)
+    → IfSome (value_of (text_in value)) (λ v. v ≡ option_map (λ (x : Bor (List ℕ)). x.now) value)
 value_same None = refl
 value_same (Some text) = by (lawful (read_value text.now)) (read_same true text.now)
   where
@@ -235,11 +239,11 @@ pub command_job : (ups name : Bor (List ℕ)) (value : Option (Bor (List ℕ))) 
     → IsOrderJob by.track place.0 by.user.now by.password.now (right_to name.now)
     (instcmd_line name.now (option_map (λ (v : Bor (List ℕ)). v.now) value)) job
 command_job ups name value by job place h p =
-    by_words (lawful (read_name name.now)) (value_of value)
+    by_words (lawful (read_name name.now)) (value_of (text_in value))
     (both_hold _ _ _ (name_read name.now) (name_same name.now))
     (both_hold _ _ _ (if_given value) (value_same value))
-    (sym (ap (λ (o : Option UpsPlace). ordered (login_of by)
-    (command_order by.track o (lawful (read_name name.now)) (value_of value))) p) ∙ h)
+    (sym (ap (λ (o : Option UpsPlace). ordered (login_of by.track by.user.now by.password.now)
+    (command_order by.track o (lawful (read_name name.now)) (value_of (text_in value)))) p) ∙ h)
   where
     given : Option (List ℕ)
     given = option_map (λ (v : Bor (List ℕ)). v.now) value
@@ -247,7 +251,8 @@ command_job ups name value by job place h p =
     by_words : (n : Option (List ℕ)) (v : Option (Option (List ℕ)))
         → IfSome n (λ word. (is_name word ≡ true) × (word ≡ name.now))
         → IfSome v (λ word. IfSome word (λ text. IsTrue (is_value text)) × (word ≡ given))
-        → ordered (login_of by) (command_order by.track (Some place) n v) ≡ Some job
+        → ordered (login_of by.track by.user.now by.password.now)
+        (command_order by.track (Some place) n v) ≡ Some job
         → IsOrderJob by.track place.0 by.user.now by.password.now (right_to name.now)
         (instcmd_line name.now given) job
     by_words (Some n) (Some v) lawful_name lawful_value e =
@@ -258,12 +263,13 @@ command_job ups name value by job place h p =
         (job_of_order by by.track place.0 (right_to n) (instcmd_line n v) place.1
         (command_request by.track place.0 n v) job
         (command_order_of by.track place.0 n v (place_lawful ups.now place p) lawful_name.0 lawful_value.0) e))
-    by_words (Some n) None lawful_name lawful_value e = absurd (no_login (login_of by) e)
+    by_words (Some n) None lawful_name lawful_value e =
+        absurd (no_login (login_of by.track by.user.now by.password.now) e)
       where
         no_login : (o : Option (List Request)) → ordered o None ≡ Some job → ⊥
         no_login None k = cc k
         no_login (Some front) k = cc k
-    by_words None v lawful_name lawful_value e = absurd (no_login (login_of by) e)
+    by_words None v lawful_name lawful_value e = absurd (no_login (login_of by.track by.user.now by.password.now) e)
       where
         no_login : (o : Option (List Request)) → ordered o None ≡ Some job → ⊥
         no_login None k = cc k

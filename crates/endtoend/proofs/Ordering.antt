@@ -1,5 +1,6 @@
 -- Whether an order's line is among the lines that were executed.
-use Rattle.std.proofs.Common.{◌≡◌, ◌∙◌, ◌⊎◌, inl, inr, ℕ, Bool, true, false, List, [], ◌∷◌, ◌++◌}
+use Rattle.std.proofs.Common.{◌≡◌, ◌∙◌, ◌⊎◌, inl, inr, ℕ, Bool, true, false}
+use Rattle.std.proofs.Common.{List, [], ◌∷◌, ◌++◌}
 use Rattle.std.proofs.Common.{append_assoc, drop, length, refl, ap, subst}
 use Rattle.std.specs.Prelude.{◌||◌, ◌&&◌, All, eqb}
 use Rattle.std.specs.List.{starts_with}
@@ -27,7 +28,8 @@ in_next r left more =
     ∙ ap (λ bs. is_order r || has_order_in left bs) (drop-append_seam (request_line r) more)
 
 in_served : (r : Request) (left : List Request) (line lines rest : List ℕ) → IsLineOf r line
-    → has_order_in (r ∷ left) ((with_lf line ++ lines) ++ rest) ≡ (is_order r || has_order_in left (lines ++ rest))
+    → has_order_in (r ∷ left) ((with_lf line ++ lines) ++ rest) ≡
+    (is_order r || has_order_in left (lines ++ rest))
 in_served r left line lines rest asks =
     ap (has_order_in (r ∷ left)) (append_assoc (with_lf line) lines rest ∙ ap (λ t. t ++ (lines ++ rest)) asks)
     ∙ in_next r left (lines ++ rest)

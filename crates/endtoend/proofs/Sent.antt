@@ -17,7 +17,7 @@ use Rattle.nutrequest.specs.declared.request.Query.TheVariants as queries
 use Rattle.nutrequest.specs.declared.request.Request.{Request}
 use Rattle.nutrequest.specs.declared.request.Request.TheVariants as requests
 use Rattle.nutclient.specs.Job.{UpsPlace, JobParts, server_or_local, upses_of, word_of, tracking}
-use Rattle.nutclient.specs.Job.{login_of, setting_of, value_of, ordered, set_request}
+use Rattle.nutclient.specs.Job.{login_of, setting_of, text_in, value_of, ordered, set_request}
 use Rattle.nutclient.specs.Job.{command_request}
 use Rattle.nutclient.specs.Target.{lawful, both, has_byte, ups_place_of}
 use Rattle.nutclient.specs.declared.form.Form.{Form}
@@ -104,7 +104,7 @@ tracked : (track : Bool) → All IsReadAsAsked (tracking track)
 tracked false = All-nil IsReadAsAsked
 tracked true = one requests.SetTracking set_tracking_read
 
-login : (by : Sender) → IfSome (login_of by) (All IsReadAsAsked)
+login : (by : Sender) → IfSome (login_of by.track by.user.now by.password.now) (All IsReadAsAsked)
 login by =
     of_both _ (IsWord USER_LIMIT) (IsWord PASSWORD_LIMIT) (All IsReadAsAsked) _ _
     (word_read USER_LIMIT by.user.now) (word_read PASSWORD_LIMIT by.password.now)
@@ -113,9 +113,10 @@ login by =
     (All-cons IsReadAsAsked (requests.Password p) (tracking by.track) (password_read p k) (tracked by.track)))
 
 of_order : (by : Sender) (o : Option (Target × Request)) → IfSome o (λ o. IsReadAsAsked o.1) →
-    IfSome (ordered (login_of by) o) AreRead
+    IfSome (ordered (login_of by.track by.user.now by.password.now) o) AreRead
 of_order by o h =
-    of_both _ (All IsReadAsAsked) (λ (o : Target × Request). IsReadAsAsked o.1) AreRead (login_of by) o (login by) h
+    of_both _ (All IsReadAsAsked) (λ (o : Target × Request). IsReadAsAsked o.1) AreRead
+    (login_of by.track by.user.now by.password.now) o (login by) h
     (λ before o all read. All-push IsReadAsAsked before o.1 all read)
 
 pub set_asked : (track : Bool) (ups name value : List ℕ) → is_ups_name ups ≡ true →
@@ -130,7 +131,7 @@ command_asked false ups name value h k v = command_read ups name value h k v
 command_asked true ups name value h k v = command_read ups name value h k v
 
 pub if_given : (value : Option (Bor (List ℕ))) →
-    IfSome (value_of value) (λ v. IfSome v (λ text. IsTrue (is_value text)))
+    IfSome (value_of (text_in value)) (λ v. IfSome v (λ text. IsTrue (is_value text)))
 if_given None = tt
 if_given (Some text) = by (lawful (read_value text.now)) (value_read text.now)
   where
@@ -144,8 +145,8 @@ each_read (given.Variables ups) = of_place (λ u. requests.List (queries.Var u))
 each_read (given.Variable ups name) = of_both _ (λ place. is_ups_name place.0 ≡ true)
     (λ n. is_name n ≡ true) AreRead _ _ (place_read ups.now) (name_read name.now)
     (λ p n h k. one (requests.GetVar p.0 n) (get_var_read p.0 n h k))
-each_read (given.Upses server) = of_server forms.Name (server_or_local server)
-each_read (given.Descriptions server) = of_server forms.Colon (server_or_local server)
+each_read (given.Upses server) = of_server forms.Name (server_or_local (text_in server))
+each_read (given.Descriptions server) = of_server forms.Colon (server_or_local (text_in server))
 each_read (given.Clients ups) = of_place (λ u. requests.List (queries.Client u)) forms.Name ups.now list_client_read
 each_read (given.Attached ups) = of_place (λ u. requests.GetNumAttach u) forms.Value ups.now num_attach_read
 each_read (given.Tracked ups id) = of_both _ (λ place. is_ups_name place.0 ≡ true) (λ i. i < 2 ^ 128)

@@ -3,7 +3,7 @@ ghost use Rattle.std.specs.Prelude.{◌≡◌, IfOk, Some, codes, true};
 ghost use Rattle.clap.specs.Words.{app_of, found_of, one_text};
 ghost use Rattle.nutargs.specs.Words.{explained};
 
-use crate::{Bond, Form, Word, with_words};
+use crate::{Form, Need, Word, with_words};
 use clap::{ArgMatches, Command};
 use std::alloc::{AllocError, Global};
 use std::io::IsTerminal;
@@ -11,7 +11,7 @@ use std::io::IsTerminal;
 static EXPLAIN: [Word; 1] = [Word {
     name: "explain",
     form: Form::LongFlag,
-    bond: Bond::Free,
+    need: Need::Free,
     help: "Explain a fault on a second line, as on a terminal",
 }];
 

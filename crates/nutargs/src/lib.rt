@@ -14,4 +14,4 @@ pub use refusal::print_refusal;
 pub use said::Said;
 pub use standard::hold_standard_streams;
 pub use version::VERSION;
-pub use words::{Bond, Form, Word, with_words, words_of};
+pub use words::{Form, Need, Word, with_words, words_of};

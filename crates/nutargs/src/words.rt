@@ -1,7 +1,7 @@
 //! The words of a program: from the system, and as its parser takes them.
-ghost use Rattle.std.specs.Prelude.{◌≡◌, ◌⊎◌, IfErr, IfOk, false, map, true};
+ghost use Rattle.std.specs.Prelude.{◌≡◌, ◌⊎◌, IfErr, IfOk, false, map};
 ghost use Rattle.clap.specs.Words.{app_of, rule_of};
-ghost use Rattle.nutargs.specs.Words.{IsReadBy, IsWord, TakesWords, bond_of, row_of, rule_by_form, with_words};
+ghost use Rattle.nutargs.specs.Words.{rule_of_word, with_words};
 
 use clap::builder::ValueParser;
 use clap::{Arg, ArgAction, Command};
@@ -13,7 +13,7 @@ pub struct Word {
     /// What it is found by.
     pub name: &'static str,
     pub form: Form,
-    pub bond: Bond,
+    pub need: Need,
     pub help: &'static str,
 }
 
@@ -27,8 +27,6 @@ pub enum Form {
     ShortOption(char, &'static str),
     /// `--name VALUE`.
     LongOption(&'static str),
-    /// `--name VALUE`, with this value where it isn't there.
-    Preset(&'static str, &'static str),
     /// `--name VALUE`, as often as wanted, with this value where it isn't there.
     Presets(&'static str, &'static str),
     /// `--name VALUE`, with what the value has to be.
@@ -37,26 +35,19 @@ pub enum Form {
     Operand(&'static str),
 }
 
-/// What binds a word.
-pub enum Bond {
+/// Whether a word has to be there.
+#[derive(Clone, Copy)]
+pub enum Need {
     Free,
-    /// It has to be there.
     Required,
-    /// None of these may be there with it.
-    Excludes(&'static [&'static str]),
-    /// Each of these has to be there with it.
-    Needs(&'static [&'static str]),
-    /// It has to be there unless one of these is.
-    StandsUnless(&'static [&'static str]),
 }
 
-/// A table of words: of each its name, its form, its bond and its help.
+/// A table of words: of each its name, its form, whether it has to be there, and its help.
 #[macro_export]
 macro_rules! words {
-    ($($name:literal: $form:ident$(($($of:expr),+))?, $bond:ident$(($($to:literal),+))?,
-        $help:expr;)+) => {
+    ($($name:literal: $form:ident$(($($of:expr),+))?, $need:ident, $help:expr;)+) => {
         [$($crate::Word { name: $name, help: $help, form: $crate::Form::$form$(($($of),+))?,
-            bond: $crate::Bond::$bond$((&[$($to),+]))? }),+]
+            need: $crate::Need::$need }),+]
     };
 }
 
@@ -77,28 +68,28 @@ pub fn with_words<'a>(
     mut command: Command<'a>,
     words: &[Word],
 ) -> Result<Command<'a>, AllocError>
-    ensures takes { IfOk result (TakesWords (map row_of words.now) command.entry) }
-    ensures app { IfOk result
-        (λ c. app_of c ≡ with_words (app_of command.entry) (map row_of words.now)) }
+    ensures { IfOk result
+        (λ c. app_of c ≡ with_words (app_of command.entry) (map rule_of_word words.now)) }
 {
     for word in words {
-        command = command.arg(bound(argument(alloc, word), &word.bond)?)?;
+        command = command.arg(argument(alloc, word))?;
     }
     Ok(command)
 }
 
-/// The argument of a word that nothing binds.
+/// The argument of a word.
 fn argument(alloc: Global, word: &Word) -> Arg<'static>
-    ensures read { IsReadBy (rule_by_form word.now.name.now word.now.form) result }
-    ensures free { (rule_of result).is_free ≡ true }
+    ensures rule { rule_of result ≡ rule_of_word word.now }
+    ensures local { result.global ≡ false }
 {
-    let arg = Arg::new(alloc, word.name).help(word.help);
+    let arg = Arg::new(alloc, word.name)
+        .help(word.help)
+        .required(matches!(word.need, Need::Required));
     match word.form {
         Form::ShortFlag(letter) => arg.short(letter).action(ArgAction::SetTrue),
         Form::LongFlag => arg.long(word.name).action(ArgAction::SetTrue),
         Form::ShortOption(letter, shown) => arg.short(letter).value_name(shown),
         Form::LongOption(shown) => arg.long(word.name).value_name(shown),
-        Form::Preset(shown, value) => arg.long(word.name).value_name(shown).default_value(value),
         Form::Presets(shown, value) => arg
             .long(word.name)
             .value_name(shown)
@@ -106,19 +97,5 @@ fn argument(alloc: Global, word: &Word) -> Arg<'static>
             .action(ArgAction::Append),
         Form::Parsed(shown, by) => arg.long(word.name).value_name(shown).value_parser(by),
         Form::Operand(shown) => arg.value_name(shown),
-    }
-}
-
-/// The argument, bound so.
-fn bound(arg: Arg<'static>, bond: &Bond) -> Result<Arg<'static>, AllocError>
-    ensures { (rule_of arg.entry).is_free ≡ true → arg.entry.global ≡ false
-        → IfOk result (IsWord (rule_of arg.entry, bond_of bond.now)) }
-{
-    match *bond {
-        Bond::Free => Ok(arg),
-        Bond::Required => Ok(arg.required(true)),
-        Bond::Excludes(names) => arg.conflicts_with_all(names),
-        Bond::Needs(names) => arg.requires_all(names),
-        Bond::StandsUnless(names) => arg.required_unless_present_any(names),
     }
 }

@@ -112,10 +112,14 @@ module _ {R W O E : Type 0} (rem : R → Option (List ℕ)) (rf : R → ℕ)
       → EndsBy ec ef is_explained program requests bytes outcome err status told
       → ((o : Result (Unit {0}) ClientFault) × (bytes : List ℕ) ×
       RunGives rem rf con wf oc of requests form is_terminal [] reader writer out o new after sent
-      then × Appends (con writer) (con sent) bytes × EndsBy ec ef is_explained program requests bytes o err status told)
+      then × Appends (con writer) (con sent) bytes ×
+      EndsBy ec ef is_explained program requests bytes o err status told)
       × (status ≡ 0 → IsDone rem rf con wf oc of requests form is_terminal reader writer out
       after sent then) × (status ≤ 1)
   ends old first begun outcome o f b g a e =
       let run = from_new rem rf con wf oc of requests form is_terminal old first reader begun writer
-      out outcome new after sent then o f b g in
-      ((outcome, bytes, run, subst (λ w. Appends (con w) (con sent) bytes) b a, e), (λ zero. is_done outcome run e zero), status_most outcome run e)
+      out outcome new after sent then o f b g in (
+        (outcome, bytes, run, subst (λ w. Appends (con w) (con sent) bytes) b a, e),
+        (λ zero. is_done outcome run e zero),
+        status_most outcome run e,
+      )

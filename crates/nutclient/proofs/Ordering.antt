@@ -19,7 +19,8 @@ use Rattle.nutclient.specs.Requests.{TakesOrders}
 begins : (xs more : List ℕ) → starts_with eqb (xs ++ more) xs ≡ true
 begins xs more = (starts_is Decides-eqb (xs ++ more) xs (starts_with eqb (xs ++ more) xs) refl).1 more refl
 
-too_short : (front : List ℕ) (next : ℕ) (rest more : List ℕ) → front ≡ (front ++ next ∷ rest) ++ more → ⊥
+too_short : (front : List ℕ) (next : ℕ) (rest more : List ℕ) → front ≡
+    (front ++ next ∷ rest) ++ more → ⊥
 too_short front next rest more e =
     omega (arith, ap length e, length-append (front ++ next ∷ rest) more, length-append front (next ∷ rest))
 
@@ -29,7 +30,8 @@ stops_before : (front : List ℕ) (next : ℕ) (rest : List ℕ) →
 stops_before front next rest = by (starts_with eqb front (front ++ next ∷ rest))
     (starts_is Decides-eqb front (front ++ next ∷ rest) (starts_with eqb front (front ++ next ∷ rest)) refl).0
   where
-    by : (b : Bool) → (b ≡ true → front ≡ (front ++ next ∷ rest) ++ drop (length (front ++ next ∷ rest)) front)
+    by : (b : Bool) → (b ≡ true → front ≡ (front ++ next ∷ rest) ++
+        drop (length (front ++ next ∷ rest)) front)
         → b ≡ false
     by true h = absurd (too_short front next rest (drop (length (front ++ next ∷ rest)) front) (h refl))
     by false h = refl

@@ -15,7 +15,7 @@ use Rattle.nutrequest.specs.declared.faults.ClientFault.{ClientFault}
 use Rattle.nutclient.specs.Requests.{last_reply}
 use Rattle.nutclient.specs.Printed.{RunGives, text_of}
 use Rattle.nutclient.specs.Shown.{shown}
-use Rattle.nutclient.specs.Why.{may_be_given, why_of}
+use Rattle.nutclient.specs.Why.{why_after}
 use Rattle.nutclient.specs.declared.cause.Cause.{Cause}
 use Rattle.nutclient.specs.declared.engine.Shows.{Shows}
 use Rattle.nutclient.specs.declared.form.Form.{Form}
@@ -27,19 +27,20 @@ name_of Upsc = codes "upsc"
 name_of Upsrw = codes "upsrw"
 name_of Upscmd = codes "upscmd"
 
--- The line that reports a fault, after the program's name.
-abbrev pub fault_line : Program → ClientFault → List ℕ
-fault_line program fault = name_of program ++ (codes ": " ++ (fault_text fault ++ 10 ∷ []))
+-- A line, after the program's name.
+abbrev pub line_after : Program → List ℕ → List ℕ
+line_after program text = name_of program ++ (codes ": " ++ (text ++ 10 ∷ []))
 
--- The line that says why, after the program's name, where there is something to say.
-abbrev pub why_line : Program → List ℕ → List ℕ
-why_line program [] = []
-why_line program (b ∷ why) = name_of program ++ (codes ": " ++ (b ∷ why ++ 10 ∷ []))
+-- The line that says why a fault came, where that is explained, and there is something to say.
+abbrev pub why_line : Program → Bool → List ℕ → List ℕ
+why_line program false why = []
+why_line program true [] = []
+why_line program true (b ∷ why) = line_after program (b ∷ why)
 
--- Why a fault came, where that is explained.
-abbrev pub explained : Bool → List ℕ → List ℕ
-explained true why = why
-explained false why = []
+-- The line that reports a fault, and the one that says why it came.
+abbrev pub fault_lines : Program → Bool → ClientFault → List ℕ → List ℕ
+fault_lines program is_explained fault why =
+    line_after program (fault_text fault) ++ why_line program is_explained why
 
 -- The status is the fault's, and the fault's line is sent, and where that is explained the one that
 -- says why, whether or not all of it is taken.
@@ -48,10 +49,10 @@ abbrev pub Reports : {E : Type 0} → (E → Option (List ℕ)) → (E → ℕ) 
 Reports contents failures is_explained program fault why err status after =
     (status ≡ status_of fault) × (sent : Result (Unit {0}) Failed)
     × SendGives contents failures
-    (fault_line program fault ++ why_line program (explained is_explained why)) err sent after
+    (fault_lines program is_explained fault why) err sent after
 
--- By what came of it, these bytes of the requests being sent: where it is done, the status is 0, and
--- nothing is reported; a fault is reported, and why it came.
+-- By what came of it, these bytes of the requests being sent: where it is done, the status is 0,
+-- and nothing is reported; a fault is reported, and why it came.
 abbrev pub EndsBy : {E : Type 0} → (E → Option (List ℕ)) → (E → ℕ) → Bool → Program
     → List Request → List ℕ → Result (Unit {0}) ClientFault → E → ℕ → E → Type 0
 EndsBy contents failures is_explained program requests bytes (Ok done) err status after =
@@ -59,7 +60,7 @@ EndsBy contents failures is_explained program requests bytes (Ok done) err statu
 EndsBy contents failures is_explained program requests bytes (Err fault) err status after =
     (cause : Cause)
     × Reports contents failures is_explained program fault
-    (why_of (may_be_given requests bytes fault) fault cause) err status after
+    (why_after requests bytes fault cause) err status after
 
 -- What came of a job over these two ends: what was sent, what came and what was printed, and by
 -- that the status and what is reported.

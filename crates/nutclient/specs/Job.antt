@@ -20,7 +20,6 @@ use Rattle.nutclient.specs.declared.job.Job.{Job}
 use Rattle.nutclient.specs.declared.target.Target.{Target}
 use Rattle.nutclient.specs.declared.form.Form.{Form}
 use Rattle.nutclient.specs.declared.form.Form.TheVariants.{Name, Value, Colon, Equals}
-use Rattle.nutclient.specs.declared.given.Sender.{Sender}
 use Rattle.nutclient.specs.declared.given.Given.{Given}
 use Rattle.nutclient.specs.declared.given.Given.TheVariants as given
 
@@ -39,9 +38,9 @@ parts_of job = (job.target, job.requests.items, job.form)
 abbrev pub listing_of : (List ℕ → Query) → Form → Option UpsPlace → Option JobParts
 listing_of query form place = option_map (λ p. (p.1, ListOf (query p.0) ∷ [], form)) place
 
-abbrev pub server_or_local : Option (Bor (List ℕ)) → Option Target
+abbrev pub server_or_local : Option (List ℕ) → Option Target
 server_or_local None = Some local_server
-server_or_local (Some text) = server_of text.now
+server_or_local (Some text) = server_of text
 
 -- The UPSs of a server.
 abbrev pub upses_of : Form → Option Target → Option JobParts
@@ -58,10 +57,10 @@ tracking false = []
 tracking true = SetTracking ∷ []
 
 -- What an order is sent after.
-abbrev pub login_of : Sender → Option (List Request)
-login_of by =
-    both (λ user password. Username user ∷ Password password ∷ tracking by.track)
-    (word_of USER_LIMIT by.user.now) (word_of PASSWORD_LIMIT by.password.now)
+abbrev pub login_of : Bool → (user password : List ℕ) → Option (List Request)
+login_of track user password =
+    both (λ user password. Username user ∷ Password password ∷ tracking track)
+    (word_of USER_LIMIT user) (word_of PASSWORD_LIMIT password)
 
 -- The variable and the value of `VAR=VALUE`, cut at the first equals sign.
 abbrev pub setting_of : List ℕ → Option (List ℕ × List ℕ)
@@ -72,9 +71,9 @@ setting_of text =
     else None
 
 -- A value for a command, which may have none.
-abbrev pub value_of : Option (Bor (List ℕ)) → Option (Option (List ℕ))
+abbrev pub value_of : Option (List ℕ) → Option (Option (List ℕ))
 value_of None = Some None
-value_of (Some text) = option_map (λ value. Some value) (lawful (read_value text.now))
+value_of (Some text) = option_map (λ value. Some value) (lawful (read_value text))
 
 -- An order after these requests, at the server that it is for.
 abbrev pub ordered : Option (List Request) → Option (Target × Request) → Option JobParts
@@ -115,19 +114,58 @@ count_of place = option_map (λ p. (p.1, GetNumAttach p.0 ∷ [], Value)) place
 abbrev pub tracked_of : Option UpsPlace → Option ℕ → Option JobParts
 tracked_of = both (λ place id. (place.1, GetTracking id ∷ [], Value))
 
+-- The job of each form of the programs' words, where they are lawful.
+abbrev pub variables_job : List ℕ → Option JobParts
+variables_job ups = listing_of Var Colon (ups_place_of ups)
+
+abbrev pub variable_job : (ups name : List ℕ) → Option JobParts
+variable_job ups name = variable_of (ups_place_of ups) (lawful (read_name name))
+
+abbrev pub upses_job : Option (List ℕ) → Option JobParts
+upses_job server = upses_of Name (server_or_local server)
+
+abbrev pub descriptions_job : Option (List ℕ) → Option JobParts
+descriptions_job server = upses_of Colon (server_or_local server)
+
+abbrev pub clients_job : List ℕ → Option JobParts
+clients_job ups = listing_of Client Name (ups_place_of ups)
+
+abbrev pub attached_job : List ℕ → Option JobParts
+attached_job ups = count_of (ups_place_of ups)
+
+abbrev pub tracked_job : (ups id : List ℕ) → Option JobParts
+tracked_job ups id = tracked_of (ups_place_of ups) (read_id id)
+
+abbrev pub writable_job : List ℕ → Option JobParts
+writable_job ups = listing_of Rw Equals (ups_place_of ups)
+
+abbrev pub set_job : Bool → (ups setting user password : List ℕ) → Option JobParts
+set_job track ups setting user password = ordered (login_of track user password)
+    (set_order track (ups_place_of ups) (setting_of setting))
+
+abbrev pub commands_job : List ℕ → Option JobParts
+commands_job ups = listing_of Cmd Name (ups_place_of ups)
+
+abbrev pub command_job : Bool → (ups name : List ℕ) → Option (List ℕ) → (user password : List ℕ)
+    → Option JobParts
+command_job track ups name value user password = ordered (login_of track user password)
+    (command_order track (ups_place_of ups) (lawful (read_name name)) (value_of value))
+
+abbrev pub text_in : Option (Bor (List ℕ)) → Option (List ℕ)
+text_in = option_map (λ text. text.now)
+
 -- What each of the programs' forms asks for, where its words are lawful.
 abbrev pub job_of : Given → Option JobParts
-job_of (given.Variables ups) = listing_of Var Colon (ups_place_of ups.now)
-job_of (given.Variable ups name) = variable_of (ups_place_of ups.now) (lawful (read_name name.now))
-job_of (given.Upses server) = upses_of Name (server_or_local server)
-job_of (given.Descriptions server) = upses_of Colon (server_or_local server)
-job_of (given.Clients ups) = listing_of Client Name (ups_place_of ups.now)
-job_of (given.Attached ups) = count_of (ups_place_of ups.now)
-job_of (given.Tracked ups id) = tracked_of (ups_place_of ups.now) (read_id id.now)
-job_of (given.Writable ups) = listing_of Rw Equals (ups_place_of ups.now)
+job_of (given.Variables ups) = variables_job ups.now
+job_of (given.Variable ups name) = variable_job ups.now name.now
+job_of (given.Upses server) = upses_job (text_in server)
+job_of (given.Descriptions server) = descriptions_job (text_in server)
+job_of (given.Clients ups) = clients_job ups.now
+job_of (given.Attached ups) = attached_job ups.now
+job_of (given.Tracked ups id) = tracked_job ups.now id.now
+job_of (given.Writable ups) = writable_job ups.now
 job_of (given.Set ups setting by) =
-    ordered (login_of by) (set_order by.track (ups_place_of ups.now) (setting_of setting.now))
-job_of (given.Commands ups) = listing_of Cmd Name (ups_place_of ups.now)
+    set_job by.track ups.now setting.now by.user.now by.password.now
+job_of (given.Commands ups) = commands_job ups.now
 job_of (given.Command ups name value by) =
-    ordered (login_of by)
-    (command_order by.track (ups_place_of ups.now) (lawful (read_name name.now)) (value_of value))
+    command_job by.track ups.now name.now (text_in value) by.user.now by.password.now

@@ -45,7 +45,7 @@ meanings = (
     )
     ∷ (
       codes "INVALID-VALUE",
-      codes "the variable doesn't take this value",
+      codes "the variable doesn't take this value: LIST ENUM and LIST RANGE say which it takes",
     )
     ∷ (
       codes "PASSWORD-REQUIRED",

@@ -1,9 +1,11 @@
 //! What each program has of its own: its words, and what they ask for.
-ghost use Rattle.std.specs.Prelude.{◌≡◌, List, map};
+ghost use Rattle.std.specs.Prelude.{◌≡◌, List, Option, map, option_and_then, true};
+ghost use Rattle.clap.specs.Words.{Rule, is_simple_and_free};
 ghost use Rattle.clap.specs.declared.parser.matches.ArgMatches.{ArgMatches};
-ghost use Rattle.nutclient.specs.declared.given.Given.{Given};
+ghost use Rattle.nutargs.specs.Words.{program_with, rule_of_word};
+ghost use Rattle.nutclient.specs.Ending.{name_of};
+ghost use Rattle.nutclient.specs.Job.{JobParts, job_of};
 ghost use Rattle.nutclient.specs.declared.program.Program.{Program};
-ghost use Rattle.nutargs.specs.Words.{Row, row_of};
 
 use crate::{Given, Program};
 use clap::ArgMatches;
@@ -14,10 +16,10 @@ pub trait Client {
     ghost PROGRAM: { Program };
 
     /// The words that it takes.
-    ghost words: { List Row };
+    ghost words: { List Rule };
 
-    /// What the words that were found ask for.
-    ghost asks: { ArgMatches → Given → Type 0 };
+    /// The job that the words that were found ask for, if they are lawful.
+    ghost asks: { ArgMatches → Option JobParts → Type 0 };
 
     /// Which of the programs it is.
     const PROGRAM: Program;
@@ -28,11 +30,12 @@ pub trait Client {
     /// The example below its help.
     const EXAMPLE: &'static str;
 
-    /// The table of its words.
+    /// The table of its words. None of them has a rule on another one.
     fn words() -> &'static [Word]
-        ensures { map row_of result.now ≡ words };
+        ensures table { map rule_of_word result.now ≡ words }
+        ensures free { is_simple_and_free (program_with (name_of PROGRAM) words) ≡ true };
 
-    /// What the words ask for. The parser has demanded the words that the form needs.
-    fn given<'a>(matches: &ArgMatches<'a>) -> Given<'a>
-        ensures { asks matches.now result };
+    /// What the words ask for, if they have one of the program's forms.
+    fn given<'a>(matches: &ArgMatches<'a>) -> Option<Given<'a>>
+        ensures { asks matches.now (option_and_then job_of result) };
 }

@@ -73,7 +73,7 @@ impl<'a> Network for Tcp<'a> {
     ghost targets = { λ network. option_to_list network.target };
 
     fn connect(&mut self, target: &Target) -> io::Result<(Self::Reader, Self::Writer)> {
-        self.target = Some(target.copied());
+        self.target = Some(target.clone());
         let writer = connect(self.rt, target, &mut self.address)?;
         let reader = writer.try_clone()?;
         Ok((End::new(Patient(reader)), End::new(Patient(writer))))

@@ -4,10 +4,11 @@ ghost use Rattle.std.specs.Result.{result_ok};
 ghost use Rattle.nutwords.specs.Reading.{read_name, read_value};
 ghost use Rattle.nuttracking.specs.Id.{read_id};
 ghost use Rattle.nutclient.specs.Target.{both, lawful, ups_place_of};
-ghost use Rattle.nutclient.specs.Job.{parts_of, variable_of, listing_of, server_or_local, upses_of, word_of, login_of, setting_of, value_of, ordered, set_request, command_request, set_order, command_order, tracked_of, job_of};
+ghost use Rattle.nutclient.specs.Job.{parts_of, variable_of, listing_of, server_or_local, upses_of, word_of, login_of, setting_of, value_of, ordered, set_request, command_request, set_order, command_order, tracked_of, text_in, job_of};
 
 use crate::limits::REQUEST_LIMIT;
-use crate::{Form, Given, PASSWORD_LIMIT, Part, Sender, Target, USER_LIMIT};
+use crate::target::ups_and_target;
+use crate::{BadWord, Form, Given, PASSWORD_LIMIT, Part, Sender, Target, USER_LIMIT};
 use arrayvec::ArrayVec;
 use nutrequest::{Query, Request};
 use nuttracking::read_id;
@@ -25,12 +26,9 @@ pub struct Job {
 /// A server, and what is asked of it after a login.
 type Order = (Target, Request);
 
-/// A UPS, and its server.
-type UpsPlace = (UpsName, Target);
-
 impl Job {
     /// Reads what is asked for, or which word isn't lawful.
-    pub fn read(given: &Given<'_>) -> Result<Job, Part>
+    pub fn read(given: &Given<'_>) -> Result<Job, BadWord>
         ensures { option_map parts_of (result_ok result) ≡ job_of given.now }
     {
         match given {
@@ -82,39 +80,15 @@ fn single(target: Target, request: Request, form: Form) -> Job
     }
 }
 
-/// A UPS, and its server.
-fn ups_and_target(text: &str) -> Result<UpsPlace, Part>
-    ensures { result_ok result ≡ ups_place_of text.now }
-{
-    Target::read(text).ok_or(wrong_server(text, Part::Ups))
-}
-
-/// What is wrong in the name of a server, which is this part: an IPv6 address has two colons, and
-/// behind a lawful name stands the port.
-fn wrong_server(text: &str, part: Part) -> Part {
-    let Some((name, port)) = text.split_once(':') else {
-        return part;
-    };
-    let is_lawful = match part {
-        Part::Host => Target::host(name).is_some(),
-        _ => Target::read(name).is_some(),
-    };
-    match is_lawful {
-        _ if port.contains(':') => Part::Ipv6,
-        true => Part::Port,
-        false => part,
-    }
-}
-
 /// The name of a variable or a command.
-fn name_of(text: &str, part: Part) -> Result<Name, Part>
+fn name_of(text: &str, part: Part) -> Result<Name, BadWord>
     ensures { result_ok result ≡ lawful (read_name text.now) }
 {
-    Name::read(text.as_bytes()).map_err(|_| part)
+    Name::read(text.as_bytes()).map_err(|_| part.bad(text))
 }
 
 /// The value of a variable.
-fn variable_job(ups: &str, name: &str) -> Result<Job, Part>
+fn variable_job(ups: &str, name: &str) -> Result<Job, BadWord>
     ensures { option_map parts_of (result_ok result)
         ≡ variable_of (ups_place_of ups.now) (lawful (read_name name.now)) }
 {
@@ -124,30 +98,33 @@ fn variable_job(ups: &str, name: &str) -> Result<Job, Part>
 }
 
 /// How far the order of an id has come, by the server of a UPS.
-fn tracked_job(ups: &str, id: &str) -> Result<Job, Part>
+fn tracked_job(ups: &str, id: &str) -> Result<Job, BadWord>
     ensures { option_map parts_of (result_ok result)
         ≡ tracked_of (ups_place_of ups.now) (read_id id.now) }
 {
     let (_, target) = ups_and_target(ups)?;
-    let id = read_id(id.as_bytes()).ok_or(Part::Id)?;
-    Ok(single(target, Request::GetTracking(id), Form::Value))
+    match read_id(id.as_bytes()) {
+        Some(id) => Ok(single(target, Request::GetTracking(id), Form::Value)),
+        None => Err(Part::Id.bad(id)),
+    }
 }
 
 /// The UPSs of a server, which is this host where none is named.
-fn upses_job(server: Option<&str>, form: Form) -> Result<Job, Part>
+fn upses_job(server: Option<&str>, form: Form) -> Result<Job, BadWord>
     ensures { option_map parts_of (result_ok result)
-        ≡ upses_of form (server_or_local server.entry) }
+        ≡ upses_of form (server_or_local (text_in server.entry)) }
 {
     let target = match server {
-        Some(text) => Target::host(text).ok_or(wrong_server(text, Part::Host))?,
+        Some(text) => text.parse::<Target>()?,
         None => Target::local(),
     };
     Ok(single(target, Request::List(Query::Ups), form))
 }
 
 /// The order after what is sent before it.
-fn ordered(by: &Sender<'_>, order: Result<Order, Part>) -> Result<Job, Part>
-    ensures { option_map parts_of (result_ok result) ≡ ordered (login_of by.now) (result_ok order) }
+fn ordered(by: &Sender<'_>, order: Result<Order, BadWord>) -> Result<Job, BadWord>
+    ensures { option_map parts_of (result_ok result)
+        ≡ ordered (login_of by.now.track by.now.user.now by.now.password.now) (result_ok order) }
 {
     let mut requests = login(by)?;
     let (target, request) = order?;
@@ -161,12 +138,13 @@ fn ordered(by: &Sender<'_>, order: Result<Order, Part>) -> Result<Job, Part>
 
 /// What is sent before an order: the user's name, the password, and where it is tracked, the asking
 /// for its id.
-fn login(by: &Sender<'_>) -> Result<ArrayVec<Request, REQUEST_LIMIT>, Part>
-    ensures requests { option_map (λ r. r.items) (result_ok result) ≡ login_of by.now }
+fn login(by: &Sender<'_>) -> Result<ArrayVec<Request, REQUEST_LIMIT>, BadWord>
+    ensures requests { option_map (λ r. r.items) (result_ok result)
+        ≡ login_of by.now.track by.now.user.now by.now.password.now }
     ensures few { IfOk result (λ r. length r.items ≤ 3) }
 {
-    let user = word(by.user, USER_LIMIT).ok_or(Part::User)?;
-    let password = word(by.password, PASSWORD_LIMIT).ok_or(Part::Password)?;
+    let user = word(by.user, USER_LIMIT, Part::User)?;
+    let password = word(by.password, PASSWORD_LIMIT, Part::Password)?;
     let mut requests = ArrayVec::new();
     requests.push(Request::Username(user));
     requests.push(Request::Password(password));
@@ -177,23 +155,25 @@ fn login(by: &Sender<'_>) -> Result<ArrayVec<Request, REQUEST_LIMIT>, Part>
 }
 
 /// A word of 1 to so many lawful bytes.
-fn word(text: &str, most: usize) -> Option<Value>
-    ensures { result ≡ word_of most text.now }
+fn word(text: &str, most: usize, part: Part) -> Result<Value, BadWord>
+    ensures { result_ok result ≡ word_of most text.now }
 {
     if text.is_empty() || text.len() > most {
-        return None;
+        return Err(part.bad(text));
     }
-    Value::read(text.as_bytes()).ok()
+    Value::read(text.as_bytes()).map_err(|_| part.bad(text))
 }
 
 /// The order to set a variable of a UPS.
-fn set_order(track: bool, ups: &str, setting: &str) -> Result<Order, Part>
+fn set_order(track: bool, ups: &str, setting: &str) -> Result<Order, BadWord>
     ensures { result_ok result
         ≡ set_order track (ups_place_of ups.now) (setting_of setting.now) }
 {
     let (ups, target) = ups_and_target(ups)?;
-    let (name, value) = setting_parts(setting).ok_or(Part::Setting)?;
-    Ok((target, set_request(track, ups, name, value)))
+    match setting_parts(setting) {
+        Some((name, value)) => Ok((target, set_request(track, ups, name, value))),
+        None => Err(Part::Setting.bad(setting)),
+    }
 }
 
 /// That a variable be set, tracked or not.
@@ -217,15 +197,15 @@ fn setting_parts(text: &str) -> Option<(Name, Value)>
 }
 
 /// The order to do a command of a UPS, with a value or without.
-fn command_order(track: bool, ups: &str, name: &str, value: Option<&str>) -> Result<Order, Part>
+fn command_order(track: bool, ups: &str, name: &str, value: Option<&str>) -> Result<Order, BadWord>
     ensures { result_ok result
         ≡ command_order track (ups_place_of ups.now) (lawful (read_name name.now))
-        (value_of value.entry) }
+        (value_of (text_in value.entry)) }
 {
     let (ups, target) = ups_and_target(ups)?;
     let name = name_of(name, Part::Command)?;
     let value = match value {
-        Some(text) => Some(Value::read(text.as_bytes()).map_err(|_| Part::Value)?),
+        Some(text) => Some(Value::read(text.as_bytes()).map_err(|_| Part::Value.bad(text))?),
         None => None,
     };
     Ok((target, command_request(track, ups, name, value)))

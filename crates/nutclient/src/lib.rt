@@ -33,7 +33,7 @@ pub use form::Form;
 pub use given::{Given, Sender};
 pub use job::Job;
 pub use limits::{DEFAULT_PORT, HOST_LIMIT, PASSWORD_LIMIT, PORT_LIMIT, USER_LIMIT, WAIT_SECONDS};
-pub use part::Part;
+pub use part::{BadWord, Part};
 pub use program::Program;
 pub use start::main_of;
 pub use target::{Host, Target};

@@ -30,5 +30,8 @@ pub const REQUEST_LIMIT: usize = 4;
 /// The most bytes of what the system says of an error.
 pub const SAID_LIMIT: usize = 256;
 
+/// The most bytes that are shown of a bad word, and of the blank before it.
+pub const SHOWN_LIMIT: usize = 101;
+
 /// The most bytes of why a fault came: a server, a text of at most 300 bytes, and the warning.
 pub const WHY_LIMIT: usize = 700;

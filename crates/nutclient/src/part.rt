@@ -1,9 +1,18 @@
 //! The words of a command line that aren't lawful, and what each has to be.
 ghost use Rattle.std.specs.Prelude.{◌≡◌, ◌≤◌, length};
+ghost use Rattle.nutclient.specs.Part.{name_of_part, rule_of, why_bad};
 
-/// A word of a command line, by its name in the help.
+use crate::Program;
+use crate::limits::SHOWN_LIMIT;
+use arrayvec::ArrayString;
+use nutwords::Line;
+use std::fmt::Write;
+
+/// A word of a command line, by its name in the help; a part of a word; or all words.
 #[derive(Clone, Copy, Debug)]
 pub enum Part {
+    /// They have none of the program's forms.
+    Forms(Program),
     Ups,
     Host,
     Port,
@@ -18,28 +27,80 @@ pub enum Part {
     Password,
 }
 
+/// A word that isn't lawful.
+#[derive(Clone, Copy, Debug)]
+pub struct BadWord {
+    part: Part,
+    /// The word after a blank, with its bytes escaped, as far as it has room.
+    shown: ArrayString<SHOWN_LIMIT>,
+}
+
 impl Part {
-    ghost use Rattle.nutclient.specs.Part.{rule_of};
+    /// A bad one. Of a password nothing is shown.
+    pub(crate) fn bad(self, word: &str) -> BadWord {
+        let mut shown = ArrayString::new();
+        if !word.is_empty() && !matches!(self, Part::Password) {
+            let _ = write!(shown, " {}", word.as_bytes().escape_ascii());
+        }
+        BadWord { part: self, shown }
+    }
+
+    /// What the help calls it.
+    fn name(self) -> &'static str
+        ensures value { result.now ≡ name_of_part self }
+        ensures short { length result.now ≤ 10 }
+    {
+        match self {
+            Part::Forms(_) => "words",
+            Part::Ups => "UPS",
+            Part::Host => "host",
+            Part::Port => "port",
+            Part::Ipv6 => "address",
+            Part::Variable => "VAR",
+            Part::Command => "CMD",
+            Part::Id => "ID",
+            Part::Setting => "VAR=VALUE",
+            Part::Value => "VALUE",
+            Part::User => "USER",
+            Part::Password => "PASS",
+        }
+    }
 
     /// What it has to be.
-    pub fn rule(self) -> &'static str
+    fn rule(self) -> &'static str
         ensures value { result.now ≡ rule_of self }
         ensures short { length result.now ≤ 100 }
     {
         match self {
-            Part::Ups => {
-                "UPS has to be ups[@host[:port]], with a host of letters, digits, . and -"
-            }
-            Part::Host => "HOST has to be host[:port], with a host of letters, digits, . and -",
-            Part::Port => "the port has to be 1 to 65535, without leading zeros",
+            Part::Forms(program) => program.forms(),
+            Part::Ups => "not 1 to 32 letters, digits, . - _",
+            Part::Host => "not 1 to 255 letters, digits, . and -",
+            Part::Port => "not 1 to 65535 without leading zeros",
             Part::Ipv6 => "an IPv6 address needs a host name, as /etc/hosts gives one",
-            Part::Variable => "VAR has to be 1 to 64 letters, digits, . - _",
-            Part::Command => "CMD has to be 1 to 64 letters, digits, . - _",
-            Part::Id => "ID has to be one that --track printed",
-            Part::Setting => "VAR=VALUE has to be a name, = and a value of at most 512 bytes",
-            Part::Value => "VALUE has to be at most 512 bytes, none of them a control character",
-            Part::User => "USER has to be 1 to 64 bytes, none of them a control character",
-            Part::Password => "PASS has to be 1 to 256 bytes, none of them a control character",
+            Part::Variable | Part::Command => "not 1 to 64 letters, digits, . - _",
+            Part::Id => "not one that --track printed",
+            Part::Setting => "not a name, = and a value of at most 512 bytes",
+            Part::Value => "not at most 512 bytes, none of them a control character",
+            Part::User => "not 1 to 64 bytes, none of them a control character",
+            Part::Password => "not 1 to 256 bytes, none of them a control character",
         }
+    }
+}
+
+impl BadWord {
+    /// What it is called, the word, and what it has to be.
+    pub(crate) fn why(&self) -> Line
+        ensures value { result.items ≡ why_bad self.now }
+        ensures short { length result.items ≤ 300 }
+    {
+        let mut why = Line::new();
+        why.try_extend_from_slice(self.part.name().as_bytes())
+            .unwrap();
+        why.try_extend_from_slice(self.shown.as_str().as_bytes())
+            .unwrap();
+        why.try_extend_from_slice(b": ").unwrap();
+        why.try_extend_from_slice(self.part.rule().as_bytes())
+            .unwrap();
+        why
     }
 }

@@ -1,13 +1,12 @@
 //! What the `main` of each program does: it takes the words, the network and the two outputs from
 //! the system.
-ghost use Rattle.std.specs.Prelude.{◌≡◌, ◌≤◌, IfOk, MatchResult, length, map, string_bytes};
+ghost use Rattle.std.specs.Prelude.{◌≡◌, ◌≤◌, MatchResult, length, map, string_bytes};
 ghost use Rattle.std.specs.Process.{exit_status};
-ghost use Rattle.clap.specs.Words.{HasMatchesOf};
 ghost use Rattle.nutrequest.specs.Fault.{status_of};
 ghost use Rattle.nutclient.specs.Ending.{name_of};
-ghost use Rattle.nutclient.specs.Start.{EndsAsAsked, EndsAsRefused};
+ghost use Rattle.nutclient.specs.Start.{EndsAsAsked, EndsAsRefused, EndsByWords};
 ghost use Rattle.nutclient.specs.declared.limits.TheConstants.{WHY_LIMIT};
-ghost use Rattle.nutargs.specs.Words.{program_with};
+ghost use Rattle.nutargs.specs.Words.{AreRead, program_with};
 
 use crate::asked::obey;
 use crate::connection::Tcp;
@@ -39,12 +38,12 @@ pub fn main_of<C: Client>(rt: &HostRuntime) -> ExitCode
 }
 
 /// Why the system gave no words.
-fn why_no_words(fault: &ClientFault) -> &'static str
+fn why_no_words(fault: &ClientFault) -> &'static [u8]
     ensures { length result.now ≤ WHY_LIMIT }
 {
     match fault {
-        ClientFault::BadTarget => "a word is not UTF-8",
-        _ => "",
+        ClientFault::BadTarget => b"a word is not UTF-8",
+        _ => b"",
     }
 }
 
@@ -57,7 +56,16 @@ fn obey_words<C: Client>(rt: &HostRuntime, mut words: Vec<String>) -> u8
             return WORD_FAULT;
         }
     }
-    end_by::<C>(rt, &matches_of::<C>(rt.alloc(), &words))
+    obey_read::<C>(rt, &words)
+}
+
+/// Does what these words ask for, or prints what the parser says of them.
+fn obey_read<C: Client>(rt: &HostRuntime, words: &[String]) -> u8
+    ensures status { EndsByWords C.asks (program_with (name_of C.PROGRAM) C.words)
+        (map string_bytes words.now) result }
+    ensures most { result ≤ WORD_FAULT }
+{
+    end_by::<C>(rt, &matches_of::<C>(rt.alloc(), words))
 }
 
 /// Does what the parser found in the words, or prints what it says of them.
@@ -103,14 +111,14 @@ fn end(rt: &HostRuntime, program: Program, error: &Error) -> u8
 {
     match print_refusal(rt, error) {
         Some(status) => status,
-        None => report(rt, program, &ClientFault::Memory, ""),
+        None => report(rt, program, &ClientFault::Memory, b""),
     }
 }
 
 /// What the words say.
 fn matches_of<'a, C: Client>(alloc: Global, words: &'a [String]) -> Result<ArgMatches<'a>, Error>
-    ensures { IfOk result (HasMatchesOf (program_with (name_of C.PROGRAM) C.words)
-        (map string_bytes words.entry.now)) }
+    ensures { AreRead (program_with (name_of C.PROGRAM) C.words)
+        (map string_bytes words.entry.now) result }
 {
     let name: &'a str = C::PROGRAM.name();
     let command: Command<'a> = Command::new(alloc, name)
@@ -124,7 +132,7 @@ fn matches_of<'a, C: Client>(alloc: Global, words: &'a [String]) -> Result<ArgMa
 
 /// Reports a fault of the words on standard error, and on a terminal why it came. Gives the exit
 /// status.
-fn report(rt: &HostRuntime, program: Program, fault: &ClientFault, why: &str) -> u8
+fn report(rt: &HostRuntime, program: Program, fault: &ClientFault, why: &[u8]) -> u8
     requires { length why.now ≤ WHY_LIMIT }
     ensures { result ≡ status_of fault.now }
 {

@@ -1,13 +1,15 @@
 //! The UPS and the server that a program's words name (upsc(8)).
 ghost use Rattle.std.specs.Prelude.{◌≡◌};
 ghost use Rattle.std.specs.List.{list_all};
+ghost use Rattle.std.specs.Result.{result_ok};
 ghost use Rattle.nutwords.specs.Natural.{is_digit};
-ghost use Rattle.nutclient.specs.Target.{both, host_of, is_host_byte, is_numeral, port_of, server_of, local_server, ups_place_of};
+ghost use Rattle.nutclient.specs.Target.{host_of, is_host_byte, is_numeral, port_of, local_server, ups_place_of};
 
-use crate::{DEFAULT_PORT, HOST_LIMIT};
+use crate::{BadWord, DEFAULT_PORT, HOST_LIMIT, Part};
 use arrayvec::ArrayString;
 use nutwords::{UpsName, is_digit};
 use std::marker::Model;
+use std::str::FromStr;
 
 /// The name or the IPv4 address of a host: 1 to 255 ASCII letters, digits, `.` and `-`. A contract
 /// sees its bytes.
@@ -48,7 +50,7 @@ fn are_host_bytes(bytes: &[u8]) -> bool
 fn is_host_byte(b: u8) -> bool
     ensures { result ≡ is_host_byte b }
 {
-    matches!(b, b'a'..=b'z' | b'A'..=b'Z' | b'0'..=b'9' | b'.' | b'-')
+    b.is_ascii_alphanumeric() || b == b'.' || b == b'-'
 }
 
 /// A server: its host and its port.
@@ -59,17 +61,6 @@ pub struct Target {
 }
 
 impl Target {
-    /// Reads `host` or `host:port`. A port is 1 to 65,535 without leading zeros, and 3493 where
-    /// none is named.
-    pub fn host(text: &str) -> Option<Target>
-        ensures { result ≡ server_of text.now }
-    {
-        match text.split_once(':') {
-            Some((host, port)) => at(Host::read(host), port_number(port)),
-            None => at(Host::read(text), Some(DEFAULT_PORT)),
-        }
-    }
-
     /// The host itself, which is the server where none is named.
     pub fn local() -> Target
         ensures { result ≡ local_server }
@@ -82,14 +73,15 @@ impl Target {
         }
     }
 
-    /// The same server.
-    pub(crate) fn copied(&self) -> Target
+    /// The same server. It takes no memory.
+    pub(crate) fn clone(&self) -> Target
         ensures { result ≡ self.now }
     {
+        let host = Host {
+            text: self.host.text,
+        };
         Target {
-            host: Host {
-                text: self.host.text,
-            },
+            host,
             port: self.port,
         }
     }
@@ -100,27 +92,53 @@ impl Target {
     {
         (self.host.text.as_str(), self.port)
     }
+}
 
-    /// Reads `ups`, `ups@host` or `ups@host:port`.
-    pub fn read(text: &str) -> Option<(UpsName, Target)>
-        ensures { result ≡ ups_place_of text.now }
-    {
-        let (ups, server) = match text.split_once('@') {
-            Some((ups, server)) => (ups, Target::host(server)),
-            None => (text, Some(Target::local())),
+/// `host` or `host:port`. A port is 1 to 65,535 without leading zeros, and 3493 where none is
+/// named.
+impl FromStr for Target {
+    ghost use Rattle.std.specs.Prelude.{◌≡◌};
+    ghost use Rattle.std.specs.Result.{result_ok};
+    ghost use Rattle.nutclient.specs.Target.{server_of};
+
+    type Err = BadWord;
+
+    ghost from_str_gives = { λ text result. result_ok result ≡ server_of text };
+
+    fn from_str(text: &str) -> Result<Target, BadWord> {
+        let (name, port) = match text.split_once(':') {
+            Some((name, port)) => (name, port_number(port)),
+            None => (text, Some(DEFAULT_PORT)),
         };
-        Some((UpsName::read(ups.as_bytes()).ok()?, server?))
+        match (Host::read(name), port) {
+            (Some(host), Some(port)) => Ok(Target { host, port }),
+            (host, _) => Err(bad_server(text, host.is_some())),
+        }
     }
 }
 
-/// The server, where both its host and its port are lawful.
-fn at(host: Option<Host>, port: Option<u16>) -> Option<Target>
-    ensures { result ≡ both (λ host port. record { host = host; port = port }) host port }
+/// What is wrong in the name of a server. An IPv6 address has two colons.
+fn bad_server(text: &str, has_host: bool) -> BadWord {
+    let (name, port) = text.split_once(':').unwrap_or((text, ""));
+    if port.contains(':') {
+        return Part::Ipv6.bad(text);
+    }
+    if has_host {
+        return Part::Port.bad(port);
+    }
+    Part::Host.bad(name)
+}
+
+/// Reads `ups`, `ups@host` or `ups@host:port`.
+pub(crate) fn ups_and_target(text: &str) -> Result<(UpsName, Target), BadWord>
+    ensures { result_ok result ≡ ups_place_of text.now }
 {
-    Some(Target {
-        host: host?,
-        port: port?,
-    })
+    let (name, server) = match text.split_once('@') {
+        Some((name, server)) => (name, server.parse::<Target>()),
+        None => (text, Ok(Target::local())),
+    };
+    let ups = UpsName::read(name.as_bytes()).map_err(|_| Part::Ups.bad(name))?;
+    Ok((ups, server?))
 }
 
 /// The port that the digits write.
@@ -130,10 +148,7 @@ fn port_number(text: &str) -> Option<u16>
     if !is_numeral(text.as_bytes()) {
         return None;
     }
-    match text.parse::<u16>() {
-        Ok(port) => Some(port),
-        Err(_) => None,
-    }
+    text.parse().ok()
 }
 
 /// Whether these are digits, of which the first isn't 0.

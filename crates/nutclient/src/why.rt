@@ -1,97 +1,113 @@
 //! Why a program meets a fault: what its second line says.
 ghost use Rattle.std.specs.Prelude.{◌≡◌, ◌≤◌, length};
-ghost use Rattle.nutclient.specs.Why.{failed, of_server, reason, warned, why_of};
+ghost use Rattle.nutclient.specs.Why.{failed, named, named_reason, subject_of, warned, why_of};
+ghost use Rattle.nutclient.specs.declared.limits.TheConstants.{WHY_LIMIT};
 
 use crate::cause::{Cause, Place};
-use crate::limits::WHY_LIMIT;
 use crate::meaning::meaning;
-use arrayvec::ArrayString;
-use nutrequest::ClientFault;
+use nutrequest::{ClientFault, Request};
+use nutwords::Line;
 
-/// Why a fault came: nothing where its first line says it all.
-pub(crate) type Why = ArrayString<WHY_LIMIT>;
-
-/// Why the fault came. Where an order may have been given that isn't printed, it warns of that.
-pub(crate) fn why_of(may_be_given: bool, fault: &ClientFault, cause: &Cause) -> Why
-    ensures { result.bytes ≡ why_of may_be_given fault.now cause.now }
+/// Why the fault came of these requests: nothing where its first line says it all. Where an order
+/// may have been given that isn't printed, it warns of that.
+pub(crate) fn why_of(
+    may_be_given: bool,
+    requests: &[Request],
+    fault: &ClientFault,
+    cause: &Cause,
+) -> Line
+    ensures value { result.items
+        ≡ why_of may_be_given (subject_of requests.now) fault.now cause.now }
+    ensures short { length result.items ≤ WHY_LIMIT }
 {
-    let mut why = reason(fault, cause);
+    let mut why = reason(&subject(requests), fault, cause);
     if may_be_given {
         push_warning(&mut why);
     }
     why
 }
 
-/// Appends the warning to what is said of the fault.
-fn push_warning(why: &mut Why)
-    requires { length why.old.bytes ≤ 600 }
-    ensures { why.new.bytes ≡ warned why.old.bytes }
+/// What the last of these requests is about: a UPS, or a variable or command of it.
+fn subject(requests: &[Request]) -> Line
+    ensures value { result.items ≡ subject_of requests.now }
+    ensures short { length result.items ≤ 100 }
 {
-    if why.is_empty() {
-        why.push_str(LOOK_FIRST);
-        return;
+    let mut subject = Line::new();
+    if let Some(request) = requests.last() {
+        let (ups, name) = request.names();
+        subject.try_extend_from_slice(ups).unwrap();
+        if !name.is_empty() {
+            subject.push(b' ');
+            subject.try_extend_from_slice(name).unwrap();
+        }
     }
-    why.push_str("; ");
-    why.push_str(LOOK_FIRST);
+    subject
 }
 
-const LOOK_FIRST: &str = "the order may have been given: look before you try again";
-
-/// Why the fault came.
-fn reason(fault: &ClientFault, cause: &Cause) -> Why
-    ensures text { result.bytes ≡ reason fault.now cause.now }
-    ensures short { length result.bytes ≤ 600 }
+/// The text, after what it is about, if there is a text.
+fn named(of: &[u8], text: &[u8]) -> Line
+    requires of { length of.now ≤ 300 }
+    requires text { length text.now ≤ 300 }
+    ensures value { result.items ≡ named of.now text.now }
+    ensures short { length result.items ≤ 602 }
 {
+    let mut line = Line::new();
+    if !of.is_empty() && !text.is_empty() {
+        line.try_extend_from_slice(of).unwrap();
+        line.try_extend_from_slice(b": ").unwrap();
+    }
+    line.try_extend_from_slice(text).unwrap();
+    line
+}
+
+/// Appends the warning to what is said of the fault.
+fn push_warning(why: &mut Line)
+    requires { length why.old.items ≤ 602 }
+    ensures value { why.new.items ≡ warned why.old.items }
+    ensures short { length why.new.items ≤ WHY_LIMIT }
+{
+    if why.is_empty() {
+        why.try_extend_from_slice(LOOK_FIRST).unwrap();
+        return;
+    }
+    why.try_extend_from_slice(b"; ").unwrap();
+    why.try_extend_from_slice(LOOK_FIRST).unwrap();
+}
+
+const LOOK_FIRST: &[u8] = b"the order may have been given: look before you try again";
+
+/// What is said of a server that ends a connection unheard.
+const CLOSED_AT_ONCE: &[u8] =
+    b"closed before any answer: the server is full, or not running behind a proxy";
+
+/// Why the fault came, after what that is about.
+fn reason(subject: &[u8], fault: &ClientFault, cause: &Cause) -> Line
+    requires { length subject.now ≤ 100 }
+    ensures value { result.items ≡ named_reason subject.now fault.now cause.now }
+    ensures short { length result.items ≤ 602 }
+{
+    let server = cause.server.as_str().as_bytes();
     match fault {
-        ClientFault::ErrWord(word) => {
-            let mut why = Why::new();
-            why.push_str(meaning(word.as_bytes()));
-            why
-        }
+        ClientFault::ErrWord(word) => named(subject, meaning(word.as_bytes()).as_bytes()),
         ClientFault::EarlyEnd if cause.has_heard => {
-            of_server(cause, "the server closed the connection")
+            named(server, b"the server closed the connection")
         }
-        ClientFault::EarlyEnd => of_server(cause, CLOSED_AT_ONCE),
-        ClientFault::Read if cause.was_reset && !cause.has_heard => {
-            of_server(cause, CLOSED_AT_ONCE)
-        }
-        ClientFault::BadReply => of_server(cause, "no reply of a UPS server came"),
-        ClientFault::BadTarget | ClientFault::Memory => Why::new(),
+        ClientFault::EarlyEnd => named(server, CLOSED_AT_ONCE),
+        ClientFault::Read if cause.was_reset && !cause.has_heard => named(server, CLOSED_AT_ONCE),
+        ClientFault::BadReply => named(server, b"no reply of a UPS server came"),
+        ClientFault::BadTarget | ClientFault::Memory => Line::new(),
         ClientFault::Connect | ClientFault::Read | ClientFault::Write => failed(cause),
     }
 }
 
-/// What is said of a server that ends a connection unheard.
-const CLOSED_AT_ONCE: &str =
-    "closed before any answer: the server is full, or not running behind a proxy";
-
-/// This text, after the server's name.
-fn of_server(cause: &Cause, text: &str) -> Why
-    requires { length text.now ≤ 300 }
-    ensures text { result.bytes ≡ of_server cause.now text.now }
-    ensures short { length result.bytes ≤ 600 }
-{
-    let mut why = Why::new();
-    why.push_str(cause.server.as_str());
-    why.push_str(": ");
-    why.push_str(text);
-    why
-}
-
 /// What the system said of the call that failed, after what failed.
-fn failed(cause: &Cause) -> Why
-    ensures text { result.bytes ≡ failed cause.now }
-    ensures short { length result.bytes ≤ 600 }
+fn failed(cause: &Cause) -> Line
+    ensures value { result.items ≡ named (failed cause.now).0 (failed cause.now).1 }
+    ensures short { length result.items ≤ 602 }
 {
-    let said = cause.said.as_str();
+    let said = cause.said.as_str().as_bytes();
     match cause.place {
-        _ if said.is_empty() => Why::new(),
-        Place::Server => of_server(cause, said),
-        Place::Output => {
-            let mut why = Why::new();
-            why.push_str("standard output: ");
-            why.push_str(said);
-            why
-        }
+        Place::Server => named(cause.server.as_str().as_bytes(), said),
+        Place::Output => named(b"standard output", said),
     }
 }

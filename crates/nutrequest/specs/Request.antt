@@ -1,6 +1,6 @@
 -- The requests of a client, and the line of each (RFC 9271).
 use Rattle.std.specs.Prelude.{ℕ, Bool, true, false, List, [], ◌∷◌, Option, Some, None, option_map}
-use Rattle.std.specs.Prelude.{option_to_list, codes}
+use Rattle.std.specs.Prelude.{option_to_list, codes, unwrap_or}
 use Rattle.nutwords.specs.Frame.{line_of}
 use Rattle.nutwords.specs.Spelling.{quoted}
 use Rattle.nuttracking.specs.Id.{id_text}
@@ -29,6 +29,9 @@ ups_of (Var ups) = Some ups
 ups_of (Rw ups) = Some ups
 ups_of (Cmd ups) = Some ups
 ups_of (Client ups) = Some ups
+
+abbrev pub name_of_ups : Query → List ℕ
+name_of_ups query = unwrap_or (ups_of query) []
 
 -- Whether its items have a value or a description.
 abbrev pub has_value : Query → Bool
@@ -63,6 +66,18 @@ request_words SetTracking = codes "SET" ∷ codes "TRACKING" ∷ codes "ON" ∷ 
 request_words (TrackedSetVar ups name value) = set_words ups name value
 request_words (TrackedInstcmd ups name value) = instcmd_words ups name value
 request_words (GetTracking id) = codes "GET" ∷ codes "TRACKING" ∷ id_text id ∷ []
+
+-- The name of the UPS that a request is about, and the one of the variable or command: nothing
+-- where it has none.
+abbrev pub names_of : Request → List ℕ × List ℕ
+names_of (ListOf query) = (name_of_ups query, [])
+names_of (GetVar ups name) = (ups, name)
+names_of (GetNumAttach ups) = (ups, [])
+names_of (SetVar ups name value) = (ups, name)
+names_of (Instcmd ups name value) = (ups, name)
+names_of (TrackedSetVar ups name value) = (ups, name)
+names_of (TrackedInstcmd ups name value) = (ups, name)
+names_of _ = ([], [])
 
 -- The line of a request, with its LF.
 abbrev pub request_line : Request → List ℕ

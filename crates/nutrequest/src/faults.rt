@@ -1,14 +1,10 @@
 //! What a client may meet.
-ghost use Rattle.std.specs.Prelude.{◌≡◌, ◌≤◌, ◌+◌, ◌++◌, length};
-ghost use Rattle.nutrequest.specs.declared.limits.TheConstants.{FAULT_LIMIT};
+ghost use Rattle.std.specs.Prelude.{◌≡◌, ◌≤◌, ◌++◌, length};
+ghost use Rattle.nutwords.specs.declared.limits.TheConstants.{NAME_LIMIT};
 
-use bstr::ByteSlice;
-use nutwords::{Line, Name};
+use nutwords::Name;
 use std::alloc::AllocError;
-use std::error::Error;
-use std::fmt::Formatter;
-use std::io::ErrorKind;
-use std::{fmt, io};
+use std::io::{self, ErrorKind};
 
 /// Why a request or a program failed.
 #[derive(Debug, Drop)]
@@ -44,47 +40,24 @@ impl ClientFault {
         }
     }
 
-    /// Appends its text.
-    pub fn push_text(&self, line: &mut Line)
-        requires { length line.old.items ≤ FAULT_LIMIT }
-        ensures text { line.new.items ≡ line.old.items ++ fault_text self.now }
-        ensures short { length line.new.items ≤ length line.old.items + FAULT_LIMIT }
+    /// Its text, and the word by which the server refused.
+    pub fn text(&self) -> (&'static [u8], &[u8])
+        ensures text { result.0.now ++ result.1.now ≡ fault_text self.now }
+        ensures front { length result.0.now ≤ 20 }
+        ensures word { length result.1.now ≤ NAME_LIMIT }
     {
         match self {
-            ClientFault::Connect => push(line, b"cannot connect"),
-            ClientFault::Read => push(line, b"read failed"),
-            ClientFault::Write => push(line, b"write failed"),
-            ClientFault::EarlyEnd => push(line, b"reply ended early"),
-            ClientFault::ErrWord(word) => {
-                push(line, b"server answered ERR ");
-                push(line, word.as_bytes());
-            }
-            ClientFault::BadReply => push(line, b"bad reply"),
-            ClientFault::BadTarget => push(line, b"bad argument"),
-            ClientFault::Memory => push(line, b"no memory"),
+            ClientFault::Connect => (b"cannot connect", b""),
+            ClientFault::Read => (b"read failed", b""),
+            ClientFault::Write => (b"write failed", b""),
+            ClientFault::EarlyEnd => (b"reply ended early", b""),
+            ClientFault::ErrWord(word) => (b"server answered ERR ", word.as_bytes()),
+            ClientFault::BadReply => (b"bad reply", b""),
+            ClientFault::BadTarget => (b"bad argument", b""),
+            ClientFault::Memory => (b"no memory", b""),
         }
     }
 }
-
-/// Appends at most 64 bytes.
-fn push(line: &mut Line, bytes: &[u8])
-    requires room { length line.old.items ≤ 500 }
-    requires bytes { length bytes.now ≤ 64 }
-    ensures text { line.new.items ≡ line.old.items ++ bytes.now }
-    ensures short { length line.new.items ≤ length line.old.items + 64 }
-{
-    line.try_extend_from_slice(bytes).unwrap();
-}
-
-impl fmt::Display for ClientFault {
-    fn fmt<W: fmt::Write>(&self, f: &mut Formatter<W>) -> fmt::Result {
-        let mut text = Line::new();
-        self.push_text(&mut text);
-        write!(f, "{}", text.as_slice().as_bstr())
-    }
-}
-
-impl Error for ClientFault {}
 
 impl From<io::Error> for ClientFault {
     ghost use Rattle.std.specs.IoError.{error_kind};

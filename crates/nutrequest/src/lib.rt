@@ -16,6 +16,6 @@ mod session;
 
 pub use faults::ClientFault;
 pub use item::Item;
-pub use limits::{FAULT_LIMIT, ITEM_LIMIT};
+pub use limits::ITEM_LIMIT;
 pub use request::{Query, Request};
 pub use session::{Session, ask};

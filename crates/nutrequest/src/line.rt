@@ -21,10 +21,7 @@ pub(crate) fn request_line(request: &Request) -> Line
 {
     match request {
         Request::List(Query::Ups) => line(b"LIST", &[b"UPS"], None),
-        Request::List(Query::Var(ups)) => line(b"LIST", &[b"VAR", ups.as_bytes()], None),
-        Request::List(Query::Rw(ups)) => line(b"LIST", &[b"RW", ups.as_bytes()], None),
-        Request::List(Query::Cmd(ups)) => line(b"LIST", &[b"CMD", ups.as_bytes()], None),
-        Request::List(Query::Client(ups)) => line(b"LIST", &[b"CLIENT", ups.as_bytes()], None),
+        Request::List(query) => line(b"LIST", &[query.kind(), query.ups()], None),
         Request::GetVar(ups, name) => {
             line(b"GET", &[b"VAR", ups.as_bytes(), name.as_bytes()], None)
         }

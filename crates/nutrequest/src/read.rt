@@ -165,11 +165,8 @@ fn behind_asked<'a>(query: &Query, words: Words<'a>) -> Option<Words<'a>>
     ensures { result ≡ behind (asked_words query.now) words.entry }
 {
     match query {
-        Query::Ups => behind(&[b"UPS"], words),
-        Query::Var(ups) => behind(&[b"VAR", ups.as_bytes()], words),
-        Query::Rw(ups) => behind(&[b"RW", ups.as_bytes()], words),
-        Query::Cmd(ups) => behind(&[b"CMD", ups.as_bytes()], words),
-        Query::Client(ups) => behind(&[b"CLIENT", ups.as_bytes()], words),
+        Query::Ups => behind(&[query.kind()], words),
+        _ => behind(&[query.kind(), query.ups()], words),
     }
 }
 

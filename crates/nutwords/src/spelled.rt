@@ -35,13 +35,6 @@ impl<'a> Model for SpelledWord<'a> {
 }
 
 impl<'a> SpelledWord<'a> {
-    /// Whether a byte of it follows a backslash.
-    pub fn holds_escapes(&self) -> bool
-        ensures { result ≡ holds_escapes self.now }
-    {
-        self.is_escaped
-    }
-
     /// Its bytes, borrowed from the line, unless it holds escapes.
     pub fn as_plain(&self) -> Option<&'a [u8]>
         ensures bytes { IfSome result (λ bytes. bytes.now ≡ spelled self.now) }

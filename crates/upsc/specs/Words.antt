@@ -1,59 +1,51 @@
 -- The words that upsc takes, and what they ask for.
-use Rattle.std.specs.Prelude.{◌≡◌, List, ◌∷◌, [], Some, None, true, false, codes}
-use Rattle.clap.specs.Words.{first_value, found_of}
+use Rattle.std.specs.Prelude.{◌≡◌, ◌+◌, ℕ, List, ◌∷◌, [], Bool, Option, Some, None, true, false}
+use Rattle.std.specs.Prelude.{codes, if◌then◌else◌, is_some, nat_lt, option_and_then}
+use Rattle.clap.specs.Words.{Rule, Text, first_value, found_of}
 use Rattle.clap.specs.declared.parser.matches.ArgMatches.{ArgMatches}
-use Rattle.nutargs.specs.Words.{Excludes, Free, IsFlag, IsGiven, IsMaybe, Row, StandsUnless}
-use Rattle.nutargs.specs.Words.{long_flag, long_option, operand, short_flag}
-use Rattle.nutclient.specs.declared.given.Given.{Given}
-use Rattle.nutclient.specs.declared.given.Given.TheVariants as givens
+use Rattle.nutargs.specs.Words.{IsFlag, long_flag, long_option, operand, short_flag}
+use Rattle.nutclient.specs.Job.{JobParts, attached_job, clients_job, descriptions_job, tracked_job}
+use Rattle.nutclient.specs.Job.{upses_job, variable_job, variables_job}
 
 -- `upsc [-l | -L | -c | --attached | --tracked ID] [UPS|HOST] [VAR]`.
-abbrev pub upsc_words : List Row
-upsc_words = (
-  short_flag (codes "l") 108,
-  Excludes
-      (codes "L" ∷ codes "c" ∷ codes "attached" ∷ codes "tracked" ∷ codes "VAR" ∷ []),
-)
-    ∷ (
-      short_flag (codes "L") 76,
-      Excludes
-          (codes "c" ∷ codes "attached" ∷ codes "tracked" ∷ codes "VAR" ∷ []),
-    )
-    ∷ (
-      short_flag (codes "c") 99,
-      Excludes
-          (codes "attached" ∷ codes "tracked" ∷ codes "VAR" ∷ []),
-    )
-    ∷ (long_flag (codes "attached"), Excludes (codes "tracked" ∷ codes "VAR" ∷ []))
-    ∷ (long_option (codes "tracked"), Excludes (codes "VAR" ∷ []))
-    ∷ (operand (codes "UPS"), StandsUnless (codes "l" ∷ codes "L" ∷ []))
-    ∷ (operand (codes "VAR"), Free) ∷ []
+abbrev pub upsc_words : List Rule
+upsc_words =
+    short_flag (codes "l") 108
+    ∷ short_flag (codes "L") 76 ∷ short_flag (codes "c") 99
+    ∷ long_flag (codes "attached")
+    ∷ long_option (codes "tracked")
+    ∷ operand (codes "UPS") ∷ operand (codes "VAR") ∷ []
 
--- Neither the UPSs of a server are asked for,
-abbrev pub AsksOfAUps : ArgMatches → Type 0
-AsksOfAUps found = IsFlag found (codes "l") false × IsFlag found (codes "L") false
+abbrev pub number : Bool → ℕ
+number true = 1
+number false = 0
 
--- nor the clients of a UPS, or how many they are.
-abbrev pub AsksNoClients : ArgMatches → Type 0
-AsksNoClients found = AsksOfAUps found × IsFlag found (codes "c") false
-    × IsFlag found (codes "attached") false
+-- What is asked for of a UPS, by -c and --attached, by what follows --tracked, and by VAR.
+abbrev pub asked_of : (c attached : Bool) → (id name : Option Text) → Text → Option JobParts
+asked_of true attached id name ups = clients_job ups
+asked_of false true id name ups = attached_job ups
+asked_of false false (Some id) name ups = tracked_job ups id
+asked_of false false None (Some name) ups = variable_job ups name
+asked_of false false None None ups = variables_job ups
 
--- What is asked for by the words that were found.
-abbrev pub IsAsked : ArgMatches → Given → Type 0
-IsAsked found (givens.Upses server) = IsFlag found (codes "l") true ×
-    IsMaybe found (codes "UPS") server
-IsAsked found (givens.Descriptions server) = IsFlag found (codes "l") false
-    × IsFlag found (codes "L") true × IsMaybe found (codes "UPS") server
-IsAsked found (givens.Clients ups) = AsksOfAUps found × IsFlag found (codes "c") true
-    × IsGiven found (codes "UPS") ups
-IsAsked found (givens.Attached ups) = AsksOfAUps found × IsFlag found (codes "c") false
-    × IsFlag found (codes "attached") true × IsGiven found (codes "UPS") ups
-IsAsked found (givens.Tracked ups id) = AsksNoClients found × IsGiven found (codes "UPS") ups
-    × (first_value (found_of found) (codes "tracked") ≡ Some id.now)
-IsAsked found (givens.Variable ups name) = AsksNoClients found × IsGiven found (codes "UPS") ups
-    × (first_value (found_of found) (codes "tracked") ≡ None)
-    × (first_value (found_of found) (codes "VAR") ≡ Some name.now)
-IsAsked found (givens.Variables ups) = AsksNoClients found × IsGiven found (codes "UPS") ups
-    × (first_value (found_of found) (codes "tracked") ≡ None)
-    × (first_value (found_of found) (codes "VAR") ≡ None)
-IsAsked found given = ⊥
+abbrev pub asked_by : (l L c attached : Bool) → (id name server : Option Text) → Option JobParts
+asked_by true L c attached id name server = upses_job server
+asked_by false true c attached id name server = descriptions_job server
+asked_by false false c attached id name server =
+    option_and_then (asked_of c attached id name) server
+
+-- At most one of these chooses what is asked for.
+abbrev pub asked : (l L c attached : Bool) → (id name server : Option Text) → Option JobParts
+asked l L c attached id name server =
+    if nat_lt 1 ((number l + number L + number c)
+    + (number attached + number (is_some id) + number (is_some name)))
+    then None
+    else asked_by l L c attached id name server
+
+-- The same, by what was found in the words.
+abbrev pub IsAsked : ArgMatches → Option JobParts → Type 0
+IsAsked found job = (l L c attached : Bool)
+    × IsFlag found (codes "l") l × IsFlag found (codes "L") L × IsFlag found (codes "c") c
+    × IsFlag found (codes "attached") attached
+    × (job ≡ asked l L c attached (first_value (found_of found) (codes "tracked"))
+    (first_value (found_of found) (codes "VAR")) (first_value (found_of found) (codes "UPS")))

@@ -2,7 +2,11 @@
 #![tactic(auto)]
 
 ghost use Rattle.nutclient.specs.declared.program.Program.TheVariants as program;
-ghost use Rattle.upscmd.specs.Words.{IsAsked, upscmd_words};
+ghost use Rattle.std.specs.Prelude.{◌≡◌, option_and_then};
+ghost use Rattle.nutclient.specs.Job.{job_of, text_in};
+ghost use Rattle.upscmd.specs.Words.{IsAsked, asked, upscmd_words};
+
+mod laws;
 
 use clap::ArgMatches;
 use nutargs::{Word, words};
@@ -15,15 +19,13 @@ fn main(rt: HostRuntime) -> ExitCode {
 
 /// Its words.
 static WORDS: [Word; 8] = words! {
-    "l": ShortFlag('l'), Excludes("u", "p", "track", "CMD", "VALUE"),
-        "List the commands of the UPS";
-    "u": ShortOption('u', "USER"), StandsUnless("l"), "The user's name";
-    "p": ShortOption('p', "PASS"), StandsUnless("l"), "The user's password";
-    "password-file": LongOption("FILE"), Excludes("p"),
-        "The file of the user's password";
+    "l": ShortFlag('l'), Free, "List the commands of the UPS";
+    "u": ShortOption('u', "USER"), Free, "The user's name";
+    "p": ShortOption('p', "PASS"), Free, "The user's password";
+    "password-file": LongOption("FILE"), Free, "The file of the user's password";
     "track": LongFlag, Free, "Track the order, and print its id instead of OK";
     "UPS": Operand("UPS"), Required, "The UPS, as ups[@host[:port]]";
-    "CMD": Operand("CMD"), StandsUnless("l"), "The command to send";
+    "CMD": Operand("CMD"), Free, "The command to send";
     "VALUE": Operand("VALUE"), Free, "A value for the command";
 };
 
@@ -48,22 +50,50 @@ impl Client for Upscmd {
         &WORDS
     }
 
-    fn given<'a>(matches: &ArgMatches<'a>) -> Given<'a> {
-        // The parser demands a UPS, and a user, a password and a command where none are to be
-        // listed.
-        let ups = matches.get_str("UPS").unwrap_or("");
-        if matches.get_flag("l") {
-            return Given::Commands(ups);
+    fn given<'a>(found: &ArgMatches<'a>) -> Option<Given<'a>> {
+        let (lists, track) = (found.get_flag("l"), found.get_flag("track"));
+        let (user, password) = (found.get_str("u"), found.get_str("p"));
+        let (name, value) = (found.get_str("CMD"), found.get_str("VALUE"));
+        let ups = found.get_str("UPS")?;
+        // The password of the first file stands after -p.
+        if found.get_str("password-file").is_some() {
+            return None;
         }
-        Given::Command {
-            ups,
-            name: matches.get_str("CMD").unwrap_or(""),
-            value: matches.get_str("VALUE"),
-            by: Sender {
-                user: matches.get_str("u").unwrap_or(""),
-                password: matches.get_str("p").unwrap_or(""),
-                track: matches.get_flag("track"),
-            },
-        }
+        asked(lists, track, user, password, name, value, ups)
     }
+}
+
+/// What is asked for of a UPS, by whether -l and --track are there, by what follows -u and -p, and
+/// by CMD and VALUE.
+fn asked<'a>(
+    lists: bool,
+    track: bool,
+    user: Option<&'a str>,
+    password: Option<&'a str>,
+    name: Option<&'a str>,
+    value: Option<&'a str>,
+    ups: &'a str,
+) -> Option<Given<'a>>
+    ensures { option_and_then job_of result ≡ asked lists track None (text_in user.entry)
+        (text_in password.entry) (text_in name.entry) (text_in value.entry) ups.now }
+{
+    if lists {
+        let has_more = track || user.is_some() || password.is_some() || name.is_some();
+        return if has_more {
+            None
+        } else {
+            Some(Given::Commands(ups))
+        };
+    }
+    let by = Sender {
+        user: user?,
+        password: password?,
+        track,
+    };
+    Some(Given::Command {
+        ups,
+        name: name?,
+        value,
+        by,
+    })
 }

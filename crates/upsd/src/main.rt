@@ -9,7 +9,8 @@ ghost use Rattle.nutargs.specs.Refusal.{refusal_status};
 ghost use Rattle.upsd.specs.Ending.{status_of};
 ghost use Rattle.upsd.specs.Task.{AsksNothing};
 ghost use Rattle.upsd.specs.declared.ending.TheConstants.{FAULT};
-ghost use Rattle.upsd.specs.Words.{AreRead, replay_app, serve_app};
+ghost use Rattle.nutargs.specs.Words.{AreRead};
+ghost use Rattle.upsd.specs.Words.{replay_app, serve_app, upsd_app};
 
 mod ending;
 mod files;
@@ -58,7 +59,7 @@ fn main(rt: HostRuntime) -> ExitCode {
 
 /// What the words say.
 fn matches_of(alloc: Global, words: &[String]) -> Result<ArgMatches<'_>, Error>
-    ensures { AreRead (map string_bytes words.entry.now) result }
+    ensures { AreRead upsd_app (map string_bytes words.entry.now) result }
 {
     let upsd = Command::new(alloc, "upsd")
         .about("A UPS server (RFC 9271)")

@@ -4,6 +4,8 @@
 ghost use Rattle.nutclient.specs.declared.program.Program.TheVariants as program;
 ghost use Rattle.upsrw.specs.Words.{IsAsked, upsrw_words};
 
+mod laws;
+
 use clap::ArgMatches;
 use nutargs::{Word, words};
 use nutclient::{Client, Given, Program, Sender, main_of};
@@ -15,12 +17,11 @@ fn main(rt: HostRuntime) -> ExitCode {
 
 /// Its words.
 static WORDS: [Word; 6] = words! {
-    "s": ShortOption('s', "VAR=VALUE"), Needs("u", "p"), "Set the variable to the value";
-    "u": ShortOption('u', "USER"), Needs("s"), "The user's name, for -s";
-    "p": ShortOption('p', "PASS"), Needs("s"), "The user's password, for -s";
-    "password-file": LongOption("FILE"), Excludes("p"),
-        "The file of the user's password, for -s";
-    "track": LongFlag, Needs("s"), "Track the order, and print its id, for -s";
+    "s": ShortOption('s', "VAR=VALUE"), Free, "Set the variable to the value";
+    "u": ShortOption('u', "USER"), Free, "The user's name, for -s";
+    "p": ShortOption('p', "PASS"), Free, "The user's password, for -s";
+    "password-file": LongOption("FILE"), Free, "The file of the user's password, for -s";
+    "track": LongFlag, Free, "Track the order, and print its id, for -s";
     "UPS": Operand("UPS"), Required, "The UPS, as ups[@host[:port]]";
 };
 
@@ -46,20 +47,27 @@ impl Client for Upsrw {
         &WORDS
     }
 
-    fn given<'a>(matches: &ArgMatches<'a>) -> Given<'a> {
-        // The parser demands a UPS, and a user and a password where a variable is to be set.
-        let ups = matches.get_str("UPS").unwrap_or("");
-        match matches.get_str("s") {
-            Some(setting) => Given::Set {
-                ups,
-                setting,
-                by: Sender {
-                    user: matches.get_str("u").unwrap_or(""),
-                    password: matches.get_str("p").unwrap_or(""),
-                    track: matches.get_flag("track"),
-                },
-            },
-            None => Given::Writable(ups),
+    fn given<'a>(found: &ArgMatches<'a>) -> Option<Given<'a>> {
+        let track = found.get_flag("track");
+        let ups = found.get_str("UPS")?;
+        // A password of the first file stands after -p.
+        let file = found.get_str("password-file");
+        match (
+            found.get_str("s"),
+            found.get_str("u"),
+            found.get_str("p"),
+            file,
+        ) {
+            (Some(setting), Some(user), Some(password), None) => {
+                let by = Sender {
+                    user,
+                    password,
+                    track,
+                };
+                Some(Given::Set { ups, setting, by })
+            }
+            (None, None, None, None) if !track => Some(Given::Writable(ups)),
+            _ => None,
         }
     }
 }

@@ -12,14 +12,19 @@ use std::net::TcpStream;
 /// refuses it until the driver has reported all.
 pub fn print_variables(rt: &HostRuntime, served: &mut Served<'_>) -> Result<bool> {
     let ups = format!(in rt.alloc(); "su@127.0.0.1:{}", served.port()?)?;
-    let job = Job::read(&Given::Variables(ups.as_str())).map_err(|_| ClientFault::BadTarget)?;
+    let job = Job::read(&Given::Variables(ups.as_str())).map_err(|_| failed())?;
     let stream = connect(rt, &job.target, &mut None)?;
     stream.set_nonblocking(true)?;
     match print(rt, &stream, served, &job) {
         Ok(()) => Ok(true),
         Err(ClientFault::ErrWord(_)) => Ok(false),
-        Err(fault) => Err(fault.into()),
+        Err(_) => Err(failed().into()),
     }
+}
+
+/// The client met a fault.
+fn failed() -> io::Error {
+    io::Error::from(ErrorKind::InvalidData)
 }
 
 /// Does the job by the engine of upsc, and prints on standard output.

@@ -10,5 +10,5 @@ returns c =
     let begun : app_of c.after_help-serve.result ≡ new_app (codes "serve") =
     ap app_of_fields c.after_help-serve.ensures ∙ ap app_of_fields c.about.ensures ∙ c.new.ensures.app in
     let made = subst (λ a. app_of c.in_ok-with_words.field-0 ≡ with_words a serve_words) begun
-    c.in_ok-with_words.ensures.app in
+    c.in_ok-with_words.ensures in
     subst (λ a. IfOk c.with_explain.result (λ whole. app_of whole ≡ explained a)) made c.with_explain.ensures

@@ -1,6 +1,6 @@
 use Rattle.nutrequest.specs.declared.request.Query.TheVariants as queries
 use Rattle.nuttracking.specs.Id.{read_id}
-use Rattle.nutclient.specs.Job.{server_or_local}
+use Rattle.nutclient.specs.Job.{server_or_local, text_in}
 use Rattle.nutclient.specs.Target.{ups_place_of}
 use Rattle.nutclient.specs.declared.form.Form.TheVariants as forms
 use Rattle.endtoend.proofs.Handing.{place_lawful, name_asked, asks_listing, asks_variable}
@@ -53,11 +53,11 @@ returns-clause-commands g c = λ s client words place line known more job at usa
 pub returns-clause-names : goal.returns-clause-names
 returns-clause-names g c = λ s client server line more job lawful sent h.
     handed _ _ _ _ _ c.args.job.now _ _ _ _ _ c.run.ensures.printed
-    (asks_upses forms.Name (server_or_local server) c.args.job.now job)
+    (asks_upses forms.Name (server_or_local (text_in server)) c.args.job.now job)
     (c.upsc_prints_the_upses.ensures s client line more lawful sent).names h
 
 pub returns-clause-descriptions : goal.returns-clause-descriptions
 returns-clause-descriptions g c = λ s client server line more job lawful sent h.
     handed _ _ _ _ _ c.args.job.now _ _ _ _ _ c.run.ensures.printed
-    (asks_upses forms.Colon (server_or_local server) c.args.job.now job)
+    (asks_upses forms.Colon (server_or_local (text_in server)) c.args.job.now job)
     (c.upsc_prints_the_upses.ensures s client line more lawful sent).descriptions h

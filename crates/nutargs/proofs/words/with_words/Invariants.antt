@@ -1,9 +1,9 @@
-use Rattle.std.proofs.Common.{drop, map}
-use Rattle.clap.specs.declared.builder.command.Command.{Command}
-use Rattle.nutargs.specs.Words.{TakesWords, row_of}
+use Rattle.std.proofs.Common.{◌≡◌, drop, map}
+use Rattle.clap.specs.Words.{app_of}
+use Rattle.nutargs.specs.Words.{rule_of_word, with_words}
 use Rattle.nutargs.proofs.words.with_words.Given as goal
 
--- a command that takes the words left takes all
+-- with the words left it is the command with all
 abbrev pub invariant-loop-word : goal.invariant-loop-word
-invariant-loop-word l = (end : Command) → TakesWords (map row_of (drop l.word-index l.words)) l.command end
-    → TakesWords (map row_of l.words) l.initial.command end
+invariant-loop-word l = with_words (app_of l.command) (map rule_of_word (drop l.word-index l.words))
+    ≡ with_words (app_of l.initial.command) (map rule_of_word l.words)

@@ -3,7 +3,7 @@ use Rattle.std.specs.Prelude.{◌||◌, ◌&&◌, not}
 use Rattle.nutrequest.specs.Orders.{has_order_in}
 use Rattle.nutrequest.specs.Session.{unread_of, reader_of, writer_of}
 use Rattle.nutclient.specs.Ending.{EndsBy, Reports}
-use Rattle.nutclient.specs.Why.{is_refusal, why_of}
+use Rattle.nutclient.specs.Why.{is_refusal, subject_of, why_of}
 use Rattle.nutclient.proofs.Done.{ends}
 use Rattle.nutclient.proofs.engine.do_job.Goals as goal
 
@@ -35,9 +35,10 @@ returns-in-Err g c =
     let cause = c.of_ends-cause.result in
     let ordered : after.has_ordered ≡ has_order_in requests sent.0 =
     sent.2 ∙ ap (λ b. b || has_order_in requests sent.0) c.new-session.ensures.ordered in
-    let why = c.as_str.ensures.value ∙ c.why_of-why.ensures
-    ∙ ap (λ b. why_of b fault cause)
-    (c.may_be_given.ensures ∙ ap (λ b. b && not (is_refusal fault)) ordered) in
+    let why = c.deref.ensures.0 ∙ c.why_of-why.ensures.value
+    ∙ ap (λ rs. why_of c.may_be_given-may_be_given.result (subject_of rs) fault cause) c.as_slice.ensures.value
+    ∙ ap (λ b. why_of b (subject_of requests) fault cause)
+    (c.may_be_given-may_be_given.ensures ∙ ap (λ b. b && not (is_refusal fault)) ordered) in
     let said = subst (λ why. Reports g.E.Sink.contents g.E.Sink.failures c.args.shows.is_explained c.args.program
     fault why c.args.err.now c.report-status.result c.report-status.new.err) why c.report-status.ensures in
     let told = subst (λ o. EndsBy g.E.Sink.contents g.E.Sink.failures c.args.shows.is_explained c.args.program
