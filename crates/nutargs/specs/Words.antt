@@ -1,10 +1,9 @@
 -- The words of a command line, as the parser takes them.
-use Rattle.std.specs.Prelude.{◌≡◌, ℕ, List, [], ◌∷◌, Bool, true, false, Option, Some, None}
-use Rattle.std.specs.Prelude.{codes, option_map, unwrap_or, Result, IfOk}
-use denote.Ref.{Bor}
+use Rattle.std.specs.Prelude.{◌≡◌, ℕ, List, [], ◌∷◌, Bool, true, false, Some, None, codes}
+use Rattle.std.specs.Prelude.{Result, IfOk}
 use Rattle.clap.specs.Simple.{new_shape}
 use Rattle.clap.specs.Words.{App, FailsBy, HasMatchesOf, Rule, Text, fault_of, new_rule, with_rule}
-use Rattle.clap.specs.Words.{first_value, found_of, one_text}
+use Rattle.clap.specs.Words.{found_of, one_text}
 use Rattle.clap.specs.declared.builder.action.ArgAction.TheVariants.{Append, SetTrue}
 use Rattle.clap.specs.declared.error.Error.{Error}
 use Rattle.clap.specs.declared.parser.matches.ArgMatches.{ArgMatches}

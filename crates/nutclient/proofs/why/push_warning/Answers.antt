@@ -1,4 +1,4 @@
-use Rattle.std.proofs.Common.{◌∙◌, ◌++◌, Ok, OnOk, ap, subst, sym}
+use Rattle.std.proofs.Common.{◌∙◌, ◌++◌, ap, sym}
 use Rattle.nutclient.specs.Why.{look_first}
 use Rattle.nutclient.proofs.Warned.{warned_some}
 use Rattle.nutclient.proofs.why.push_warning.Goals as goal
