@@ -16,7 +16,8 @@ use Rattle.nutcore.specs.Step.{may_take, may_open, pumped_until, opened, after_b
 use Rattle.nutcore.specs.DriverEvents.{handed_in, id_outcome}
 use Rattle.nutcore.specs.Step.{outcome_of, MayLackMemory}
 use Rattle.nutcore.specs.Calls.{done, IsEvent}
-use Rattle.nutcore.specs.Cost.{RunningServer, begun}
+use Rattle.nutcore.specs.Cost.{RunningServer, forgetful}
+use Rattle.nutdriver.specs.Waste.{TreeWaste}
 use Rattle.nutcore.specs.History.{executions_until}
 use Rattle.nutcore.specs.Notes.{notes_of_lines}
 use Rattle.nutcore.specs.Sound.{IsSound}
@@ -95,8 +96,8 @@ unfolding outcome_of after_by
 close_present s c x xs e exs = record { allowed = inl (rw e); leaves = rw exs }
 
 -- a client sends, and its lines are executed
-pub feed_event : {old v new : RunningServer} {c i : ℕ} {piece : List ℕ} {x y : SessionState} {n kept : ℕ}
-    (r : Result (Unit {0}) Fault) → v ≡ begun old.state → IsSound v.state →
+pub feed_event : {old v new : RunningServer} {w : TreeWaste} {c i : ℕ} {piece : List ℕ} {x y : SessionState} {n kept : ℕ}
+    (r : Result (Unit {0}) Fault) → v ≡ forgetful old.state w → IsSound v.state →
     StandsAt v.state c i x → y ≡ joined piece x
     → n ≡ accepted x piece
     → kept ≡ length (offered (Some x)) →
@@ -105,7 +106,7 @@ pub feed_event : {old v new : RunningServer} {c i : ℕ} {piece : List ℕ} {x y
     → kept ≤ length (offered (session c new.state)) → new.cost ≡
     cost_beyond kept (offered (session c new.state)) →
     IsEvent old (Feed c piece) (fed_as n r) new
-feed_event {old} {v} {new} {c} {i} {piece} {x} {y} {n} {kept} r begins sound here joins count left gives within cost =
+feed_event {old} {v} {new} {w} {c} {i} {piece} {x} {y} {n} {kept} r begins sound here joins count left gives within cost =
     let j : ServerState = record v.state { sessions = set v.state.sessions i y } in
     let fed = with_input_is v.state c i piece x y here.at here.found joins in
     let before = left ∙ sym (ap (λ (o : Option SessionState). length (offered o)) here.found) in
@@ -126,15 +127,15 @@ may_take_true : (o : Option SessionState) (x : SessionState) (n k : ℕ) → o �
     → n ≤ k → may_take o n ≡ true
 may_take_true o x n k e ek le = grind arith
 
-pub take_event : {old v new : RunningServer} {c i n k : ℕ} {x y : SessionState} (r : Result (Unit {0}) Fault)
-    → v ≡ begun old.state → IsSound v.state → StandsAt v.state c i x → y ≡ taken_from n x
+pub take_event : {old v new : RunningServer} {w : TreeWaste} {c i n k : ℕ} {x y : SessionState} (r : Result (Unit {0}) Fault)
+    → v ≡ forgetful old.state w → IsSound v.state → StandsAt v.state c i x → y ≡ taken_from n x
     → k ≡ length (offered (Some x)) → n ≤ k
     → (let j : ServerState = record v.state { sessions = set v.state.sessions i y } in PumpGives j c r new.state ×
     (new.notes ≡ take NOTE_LIMIT (notes_of_lines (executions_until j c (refused_after (done r))))))
     → k - n ≤ length (offered (session c new.state)) → new.cost ≡
     cost_beyond (k - n) (offered (session c new.state)) →
     IsEvent old (Took c n) (done r) new
-take_event {old} {v} {new} {c} {i} {n} {k} {x} {y} r begins sound here takes all few gives within cost =
+take_event {old} {v} {new} {w} {c} {i} {n} {k} {x} {y} r begins sound here takes all few gives within cost =
     let took = without_output_is v.state c i n x y here.at here.found takes in
     let before = all ∙ sym (ap (λ (o : Option SessionState). length (offered o)) here.found) in
     let may = may_take_true (session c v.state) x n k here.found all few in

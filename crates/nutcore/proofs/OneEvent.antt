@@ -9,7 +9,8 @@ use Rattle.nutcore.specs.declared.event.Outcome.TheVariants.{Refused}
 use Rattle.nutcore.specs.declared.event.Fault.TheVariants.{NoSuchUps, NoSuchClient}
 use Rattle.nutcore.specs.declared.note.TheConstants.{NOTE_LIMIT}
 pub use Rattle.nutcore.specs.Calls.{IsEvent, done}
-use Rattle.nutcore.specs.Cost.{RunningServer, begun, cost_of}
+use Rattle.nutcore.specs.Cost.{RunningServer, forgetful, cost_of}
+use Rattle.nutdriver.specs.Waste.{TreeWaste}
 use Rattle.nutcore.specs.Isolation.{client_of, ups_of, is_harmless}
 use Rattle.nutcore.specs.Notes.{all_notes, notes_of}
 use Rattle.nutcore.specs.Promises.{IsNotConnected}
@@ -24,10 +25,11 @@ use Rattle.nutcore.proofs.Runs.{lawful}
 use Rattle.nutcore.proofs.Stepping.{run_sent, run_taken_up}
 
 -- what it does, costs and notes from then on is what the event is
-pub event_from : (old v new : RunningServer) (e : Event) (o : Outcome) → v ≡ begun old.state → IsSound v.state
+pub event_from : (old v new : RunningServer) {w : TreeWaste} (e : Event) (o : Outcome) → v ≡ forgetful old.state w
+    → IsSound v.state
     → Step v.state e o new.state
     → new.cost ≡ cost_of v.state e new.state → new.notes ≡ notes_of v.state e o → IsEvent old e o new
-event_from old v new e o begins sound step cost notes =
+event_from old v new {w} e o begins sound step cost notes =
     let is : v.state ≡ old.state = ap (λ (r : RunningServer). r.state) begins in
     let able = lawful old.state (subst IsSound is sound).ids in
     let step : Step old.state e o new.state = subst (λ (s : ServerState). Step s e o new.state) is step in
@@ -40,14 +42,14 @@ event_from old v new e o begins sound step cost notes =
     }
 
 -- nothing is noted by then
-pub none_noted : {v : RunningServer} {s : ServerState} → v ≡ begun s → v.notes ≡ []
+pub none_noted : {v : RunningServer} {s : ServerState} {w : TreeWaste} → v ≡ forgetful s w → v.notes ≡ []
 none_noted begins = ap (λ (r : RunningServer). r.notes) begins
 
 -- where no client sends or takes, it costs nothing
-pub plain_event : {old v new : RunningServer} (e : Event) {o : Outcome} → IsPlain e → v ≡ begun old.state
-    → IsSound v.state → new.cost ≡ v.cost → Step v.state e o new.state
+pub plain_event : {old v new : RunningServer} {w : TreeWaste} (e : Event) {o : Outcome} → IsPlain e
+    → v ≡ forgetful old.state w → IsSound v.state → new.cost ≡ v.cost → Step v.state e o new.state
     → new.notes ≡ notes_of v.state e o → IsEvent old e o new
-plain_event {old} {v} {new} e {o} plain begins sound cost step notes =
+plain_event {old} {v} {new} {w} e {o} plain begins sound cost step notes =
     event_from old v new e o begins sound step
     (cost ∙ ap (λ (r : RunningServer). r.cost) begins ∙ sym ((silent e plain).costs v.state new.state)) notes
 
@@ -74,9 +76,10 @@ pub record Refuses (s : ServerState) (e : Event) (fault : Fault) : Type 0 where
   pub harmless : is_harmless fault ≡ true
 
 -- so it does where nothing was done since
-pub refused_event : {old v : RunningServer} (e : Event) (fault : Fault) → v ≡ begun old.state → IsSound v.state
+pub refused_event : {old v : RunningServer} {w : TreeWaste} (e : Event) (fault : Fault) → v ≡ forgetful old.state w
+    → IsSound v.state
     → Refuses v.state e fault → IsEvent old e (Refused fault) v
-refused_event {old} {v} e fault begins sound h =
+refused_event {old} {v} {w} e fault begins sound h =
     let quiet : is_quiet (outcome_of v.state e) ≡ true = subst (λ (o : Outcome). is_quiet o ≡ true) (sym h.is)
     h.harmless in
     event_from old v v e (Refused fault) begins sound (refused v.state e fault h.is h.harmless)
@@ -86,12 +89,12 @@ refused_event {old} {v} e fault begins sound h =
     (take NOTE_LIMIT) (quiet_notes v.state e quiet)))
 
 -- and where `?` hands the fault on
-pub handed_on : {A : Type 0} {old v : RunningServer} (e : Event) (out : Result A Fault → Outcome) (r : Result A Fault)
+pub handed_on : {A : Type 0} {old v : RunningServer} {w : TreeWaste} (e : Event) (out : Result A Fault → Outcome) (r : Result A Fault)
     {fault : Fault} → ((f : Fault) → out (Err f) ≡ Refused f)
-    → IsErrAnd r (λ f. f ≡ fault) → v ≡ begun old.state → IsSound v.state →
+    → IsErrAnd r (λ f. f ≡ fault) → v ≡ forgetful old.state w → IsSound v.state →
     Refuses v.state e fault → IsEvent old e
     (out r) v
-handed_on {A} {old} {v} e out r {fault} outs err begins sound h =
+handed_on {A} {old} {v} {w} e out r {fault} outs err begins sound h =
     let p = err_from_is_err_and r err in
     subst (λ (o : Outcome). IsEvent old e o v) (sym (ap out (p.1 ∙ ap Err p.2) ∙ outs fault))
     (refused_event e fault begins sound h)

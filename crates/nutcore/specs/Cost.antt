@@ -1,5 +1,8 @@
--- What an event costs: the lines it renders and the bytes it places.
-use Rattle.std.specs.Prelude.{ℕ, ◌+◌, ◌-◌, List, [], ◌∷◌, length, drop}
+-- What an event costs: the lines it renders and the bytes it places; and what it takes apart.
+use Rattle.std.specs.Prelude.{◌≡◌, ℕ, ◌+◌, ◌-◌, ◌<◌, ◌≤◌, ◌==◌, ◌&&◌, Bool, true, false, not}
+use Rattle.std.specs.Prelude.{List, [], ◌∷◌, length, drop}
+use Rattle.nutdriver.specs.Waste.{TreeWaste, no_waste, nodes_of}
+use Rattle.nutdriver.specs.declared.limits.TheConstants.{TAKEN_APART_LIMIT}
 use Rattle.nutlisting.specs.Counts.{lines}
 use Rattle.nutcore.specs.declared.cost.Cost.{Cost}
 use Rattle.nutcore.specs.declared.note.Note.{Note}
@@ -10,18 +13,40 @@ use Rattle.nutcore.specs.Server.{ServerState, session}
 use Rattle.nutcore.specs.Step.{offered, after}
 use Rattle.nutcore.specs.History.{taken_in_event}
 
--- A server as its callers see it, what its last event cost, and what was noted of it.
+-- A server as its callers see it, what its last event cost, what was noted of it, and how much waits
+-- to be taken apart.
 pub record RunningServer : Type 0 where
   pub state : ServerState
   pub cost : Cost
   pub notes : List Note
+  pub waste : TreeWaste
 
 abbrev pub no_cost : Cost
 no_cost = record { rendered = 0; placed = 0 }
 
--- A server before any event, and once what the last one cost and did is forgotten.
+-- A server once what the last event cost and did is forgotten.
+abbrev pub forgetful : ServerState → TreeWaste → RunningServer
+forgetful s waste = record { state = s; cost = no_cost; notes = []; waste = waste }
+
+-- A server before any event.
 abbrev pub begun : ServerState → RunningServer
-begun s = record { state = s; cost = no_cost; notes = [] }
+begun s = forgetful s no_waste
+
+-- Trees wait to be taken apart.
+abbrev pub has_waste : TreeWaste → Bool
+has_waste waste = not (waste.variables.trees == 0 && waste.commands.trees == 0)
+
+-- At most 1,024 nodes are taken apart: as many fewer wait, or none.
+pub record AreFewer (old new : TreeWaste) : Type 0 where
+  pub count : ℕ
+  pub most : count ≤ TAKEN_APART_LIMIT
+  pub fewer : nodes_of new + count ≤ nodes_of old
+  pub all : count < TAKEN_APART_LIMIT → new ≡ no_waste
+
+-- Where something waits, fewer nodes wait afterwards; else nothing changes.
+pub record IsTakenApart (old new : TreeWaste) : Type 0 where
+  pub some : has_waste old ≡ true → AreFewer old new
+  pub none : has_waste old ≡ false → new ≡ old
 
 -- What is offered to a client before and after, and how many bytes it took: those that are offered
 -- after, and those taken, less those offered before, were placed. They are the last of those

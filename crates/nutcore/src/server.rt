@@ -4,13 +4,14 @@ ghost use Rattle.std.specs.Option.{option_map};
 ghost use Rattle.std.specs.Io.BufRead.{Rests};
 ghost use Rattle.std.specs.Borrow.{sem};
 ghost use Rattle.nuttracking.specs.Tracking.{missing_ids, nothing_tracked};
+ghost use Rattle.nutdriver.specs.Waste.{no_waste};
 ghost use Rattle.nutcore.specs.Server.{session, new_server};
 ghost use Rattle.nutcore.specs.Parts.{ups_at};
 ghost use Rattle.nutcore.specs.Ups.{new_ups};
 ghost use Rattle.nutusers.specs.UpsList.{place_of, id_at};
 ghost use Rattle.nutcore.specs.Step.{offered};
 ghost use Rattle.nutcore.specs.Run.{Run};
-ghost use Rattle.nutcore.specs.Cost.{begun, last_cost};
+ghost use Rattle.nutcore.specs.Cost.{begun, forgetful, has_waste, IsTakenApart, last_cost};
 ghost use Rattle.nutcore.specs.Sound.{IsSound};
 ghost use Rattle.nutcore.specs.Due.{due_second};
 ghost use Rattle.nutcore.specs.History.{owed};
@@ -93,6 +94,7 @@ impl Model for Server {
       };
       cost = record { rendered = s.scratch.renders; placed = s.placed };
       notes = s.notes;
+      waste = s.scratch.waste;
     } };
 
     ghost invariant = { λ s. record {
@@ -130,6 +132,7 @@ impl Rooms {
         ensures room { IfOk result (λ r. SESSION_LIMIT ≤ vec_capacity r.sessions) }
         ensures tracking { IfOk result (λ r. r.tracking ≡ nothing_tracked) }
         ensures notes { IfOk result (λ r. r.notes ≡ []) }
+        ensures waste { IfOk result (λ r. r.waste ≡ no_waste) }
     {
         let mut upses = Vec::with_capacity(alloc, count)?;
         for _ in 0..count {
@@ -227,7 +230,8 @@ impl Server {
 
     /// Takes nodes of trees apart that nobody has any more, at most 1,024. Takes no memory.
     pub fn take_apart(&mut self)
-        ensures { self.new ≡ self.old }
+        ensures apart { IsTakenApart self.old.waste self.new.waste }
+        ensures same { self.new ≡ record self.old { waste = self.new.waste } }
     {
         if self.has_waste() {
             let _ = self.scratch.waste.take_apart();
@@ -235,14 +239,17 @@ impl Server {
     }
 
     /// Whether trees wait to be taken apart.
-    pub fn has_waste(&self) -> bool {
+    pub fn has_waste(&self) -> bool
+        ensures { result ≡ has_waste self.now.waste }
+    {
         !self.scratch.waste.is_empty()
     }
 
     /// What the last event cost and did is forgotten, as once a journal has its notes. Each event
     /// begins with that, and nodes are taken apart as by `take_apart`.
     pub fn forget(&mut self)
-        ensures begun { self.new ≡ begun self.old.state }
+        ensures begun { self.new ≡ forgetful self.old.state self.new.waste }
+        ensures apart { IsTakenApart self.old.waste self.new.waste }
         ensures sound { IsSound self.new.state }
     {
         self.take_apart();

@@ -17,7 +17,7 @@ use Rattle.nutcore.specs.declared.event.Peer.{Peer}
 use Rattle.nutcore.specs.declared.event.Peer.TheVariants.{Client, Driver}
 use Rattle.nutcore.specs.declared.TheConstants.{HELD_LIMIT}
 use Rattle.nutcore.specs.declared.server.status.Standing.{Standing}
-use Rattle.nutcore.specs.Cost.{RunningServer, begun}
+use Rattle.nutcore.specs.Cost.{RunningServer, forgetful}
 use Rattle.nutcore.specs.Recording.{Recorded, Continues}
 use Rattle.nutcore.specs.Session.{SessionState}
 use Rattle.nutcore.specs.Ups.{UpsState}
@@ -162,18 +162,19 @@ module _ {S R : Type 0} (told : S → Told) (holds : R → Recorded) where
 
   -- A turn: what is ready is found, before which the record may be written, and then its row is done.
   pub turn_of : (soon : Bool) (found ready : Ready) (old mid new : Loop S R) (server : RunningServer) →
-      server ≡ begun old.server.state → found ≡ ready →
+      server ≡ forgetful old.server.state server.waste → found ≡ ready →
       ReadyGives told holds soon (record old { server = server }) (Ok found) mid →
       IsRow told holds ready mid new → IsTurn told holds soon old new
   turn_of soon found ready old mid new server begun is gives r =
-      let from : ReadyGives told holds soon (forgotten told holds old) (Ok ready) mid =
+      let from : ReadyGives told holds soon (forgotten told holds old server.waste) (Ok ready) mid =
       subst (λ (s : RunningServer). ReadyGives told holds soon (record old { server = s }) (Ok ready) mid) begun
       (subst (λ (x : Ready). ReadyGives told holds soon (record old { server = server }) (Ok x) mid) is gives) in
       record {
         ready = ready;
         mid = mid.sockets;
         found = from.1;
-        row = row_from ready (forgotten told holds old) mid new from.0 r;
+        waste = server.waste;
+        row = row_from ready (forgotten told holds old server.waste) mid new from.0 r;
       }
 
   -- A row of one event, without a call.

@@ -9,7 +9,7 @@ use Rattle.nutcore.specs.declared.TheConstants.{HELD_LIMIT}
 use Rattle.nutcore.specs.declared.event.Event.{Event}
 use Rattle.nutcore.specs.declared.event.Outcome.{Outcome}
 use Rattle.nutcore.specs.Bounded.{EachEventIsBounded, IsBounded}
-use Rattle.nutcore.specs.Cost.{RunningServer, begun, cost_of}
+use Rattle.nutcore.specs.Cost.{RunningServer, cost_of, forgetful}
 use Rattle.nutcore.specs.History.{executions, executions_in_event}
 use Rattle.nutcore.specs.Recording.{Recorded}
 use Rattle.nutcore.specs.Run.{Run}
@@ -96,7 +96,7 @@ module _ {S R : Type 0} (told : S → Told) (holds : R → Recorded) where
         few = omega (
           arith,
           length-append es later.events,
-          one_at_most (begun old.server.state) mid.server es turn.row.does.outcomes turn.row.does.noted,
+          one_at_most (forgetful old.server.state turn.waste) mid.server es turn.row.does.outcomes turn.row.does.noted,
           later.few,
         );
       }

@@ -15,7 +15,8 @@ use Rattle.nutcore.specs.declared.event.Peer.TheVariants.{Client, Driver}
 use Rattle.nutcore.specs.Server.{ServerState, session}
 use Rattle.nutcore.specs.Step.{Step, offered}
 use Rattle.nutcore.specs.Run.{Run}
-use Rattle.nutcore.specs.Cost.{RunningServer, begun}
+use Rattle.nutcore.specs.Cost.{RunningServer, forgetful}
+use Rattle.nutdriver.specs.Waste.{TreeWaste}
 use Rattle.nutcore.specs.Notes.{notes_of}
 use Rattle.nutcore.specs.Recording.{Recorded, Continues}
 use Rattle.nutcore.specs.Calls.{room_of, is_finished}
@@ -213,15 +214,16 @@ module _ {S R : Type 0} (told : S → Told) (holds : R → Recorded) where
     pub does : Does (row_events old.server.state ready answer) (record old { sockets = mid }) new
 
   -- What earlier turns noted is forgotten.
-  abbrev pub forgotten : Loop S R → Loop S R
-  forgotten old = record old { server = begun old.server.state }
+  abbrev pub forgotten : Loop S R → TreeWaste → Loop S R
+  forgotten old waste = record old { server = forgetful old.server.state waste }
 
   -- A turn that ends well: what is ready is found, by these sockets then, and its row is done.
   pub record IsTurn (soon : Bool) (old new : Loop S R) : Type 0 where
     pub ready : Ready
     pub mid : S
     pub found : IsFound soon old.server.state ready (told old.sockets) (told mid)
-    pub row : IsRow ready (record (forgotten old) { sockets = mid }) new
+    pub waste : TreeWaste
+    pub row : IsRow ready (record (forgotten old waste) { sockets = mid }) new
 
   -- The server is as it was, and so is what is recorded of it.
   pub record IsLeft (old new : Loop S R) : Type 0 where
@@ -248,9 +250,9 @@ module _ {S R : Type 0} (told : S → Told) (holds : R → Recorded) where
   abbrev pub TurnGives : Bool → Loop S R → Result (Unit {0}) LoopFault → Loop S R → Type 0
   TurnGives soon old (Ok u) new = IsTurn soon old new
   TurnGives soon old (Err fault.Ready) new =
-      IsLeft (forgotten old) new × FailsToLook (told old.sockets) (told new.sockets)
+      IsLeft (forgotten old new.server.waste) new × FailsToLook (told old.sockets) (told new.sockets)
   TurnGives soon old (Err fault.Accept) new =
-      IsLeft (forgotten old) new
+      IsLeft (forgotten old new.server.waste) new
       × ((mid : S)
       × IsFound soon old.server.state readies.Newcomer (told old.sockets) (told mid)
       × Reports counted (told mid) [] (told new.sockets))

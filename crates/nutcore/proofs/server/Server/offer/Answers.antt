@@ -27,6 +27,7 @@ returns c =
               cost =
                   (the_view c.self.inside).cost;
               notes = (the_view c.self.inside).notes;
+              waste = (the_view c.self.inside).waste;
             } in r) (ap (set v.sessions c.in_ok-place.place)
             (c.offer.follows.holds-at-none ∙ c.index_mut-session.ensures.value) ∙
             set-get_or v.sessions c.in_ok-place.place x) ∙ c.self.view_is,
