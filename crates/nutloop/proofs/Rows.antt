@@ -166,15 +166,15 @@ module _ {S R : Type 0} (told : S → Told) (holds : R → Recorded) where
       ReadyGives told holds soon (record old { server = server }) (Ok found) mid →
       IsRow told holds ready mid new → IsTurn told holds soon old new
   turn_of soon found ready old mid new server begun is gives r =
-      let from : ReadyGives told holds soon (forgotten told holds old server.waste) (Ok ready) mid =
+      let from : ReadyGives told holds soon (forgotten told holds old server) (Ok ready) mid =
       subst (λ (s : RunningServer). ReadyGives told holds soon (record old { server = s }) (Ok ready) mid) begun
       (subst (λ (x : Ready). ReadyGives told holds soon (record old { server = server }) (Ok x) mid) is gives) in
       record {
         ready = ready;
         mid = mid.sockets;
         found = from.1;
-        waste = server.waste;
-        row = row_from ready (forgotten told holds old server.waste) mid new from.0 r;
+        server = server;
+        row = row_from ready (forgotten told holds old server) mid new from.0 r;
       }
 
   -- A row of one event, without a call.

@@ -20,7 +20,6 @@ use Rattle.nutcore.specs.Session.{SessionState}
 use Rattle.nutcore.specs.Server.{ServerState, session}
 use Rattle.nutcore.specs.Pump.{owed_of}
 use Rattle.nutcore.specs.Cost.{RunningServer, forgetful}
-use Rattle.nutdriver.specs.Waste.{TreeWaste}
 use Rattle.nutcore.specs.Notes.{IsReadAtOnce, notes_of}
 use Rattle.nutcore.specs.NotedRuns.{notes_along}
 use Rattle.nutcore.specs.Recording.{Recorded, Continues}
@@ -81,14 +80,14 @@ pub all_joins : {X : Type 0} (P : X → Type 0) (xs ys : List X) → All P xs �
 all_joins P [] ys h k = k
 all_joins P (x ∷ xs) ys h k = All-cons P x (xs ++ ys) (All-head P x xs h) (all_joins P xs ys (All-tail P x xs h) k)
 
-noted_by_one : (s : ServerState) (waste : TreeWaste) (new : RunningServer) (es : List Event) (os : List Outcome) →
-    AreNoted (forgetful s waste) es os new → new.notes ≡ notes_along s es os
-noted_by_one s waste new [] [] h = h
-noted_by_one s waste new (e ∷ []) (o ∷ []) h = h ∙ sym (append-nil (notes_of s e o))
-noted_by_one s waste new [] (o ∷ os) h = absurd h
-noted_by_one s waste new (e ∷ []) [] h = absurd h
-noted_by_one s waste new (e ∷ []) (o ∷ (q ∷ os)) h = absurd h
-noted_by_one s waste new (e ∷ (f ∷ es)) os h = absurd h
+noted_by_one : (s : ServerState) (v : RunningServer) (new : RunningServer) (es : List Event) (os : List Outcome) →
+    AreNoted (forgetful s v.waste) es os new → new.notes ≡ notes_along s es os
+noted_by_one s v new [] [] h = h
+noted_by_one s v new (e ∷ []) (o ∷ []) h = h ∙ sym (append-nil (notes_of s e o))
+noted_by_one s v new [] (o ∷ os) h = absurd h
+noted_by_one s v new (e ∷ []) [] h = absurd h
+noted_by_one s v new (e ∷ []) (o ∷ (q ∷ os)) h = absurd h
+noted_by_one s v new (e ∷ (f ∷ es)) os h = absurd h
 
 -- They open sessions only from lawful addresses: of any other there would be something.
 abbrev unlawful : Option (List ℕ) → List ℕ
@@ -225,7 +224,7 @@ module _ {S R : Type 0} (told : S → Told) (holds : R → Recorded) where
 
   turn_notes : (soon : Bool) (old new : Loop S R) (t : IsTurn told holds soon old new) → new.server.notes ≡
       notes_along old.server.state (one soon old new t).events (one soon old new t).outcomes
-  turn_notes soon old new t = noted_by_one old.server.state t.waste new.server
+  turn_notes soon old new t = noted_by_one old.server.state t.server new.server
       (row_events old.server.state t.ready t.row.answer) t.row.does.outcomes t.row.does.noted
 
   -- No event happens.

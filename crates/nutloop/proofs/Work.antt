@@ -96,7 +96,7 @@ module _ {S R : Type 0} (told : S → Told) (holds : R → Recorded) where
         few = omega (
           arith,
           length-append es later.events,
-          one_at_most (forgetful old.server.state turn.waste) mid.server es turn.row.does.outcomes turn.row.does.noted,
+          one_at_most (forgetful old.server.state turn.server.waste) mid.server es turn.row.does.outcomes turn.row.does.noted,
           later.few,
         );
       }

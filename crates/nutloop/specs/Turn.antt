@@ -16,7 +16,6 @@ use Rattle.nutcore.specs.Server.{ServerState, session}
 use Rattle.nutcore.specs.Step.{Step, offered}
 use Rattle.nutcore.specs.Run.{Run}
 use Rattle.nutcore.specs.Cost.{RunningServer, forgetful}
-use Rattle.nutdriver.specs.Waste.{TreeWaste}
 use Rattle.nutcore.specs.Notes.{notes_of}
 use Rattle.nutcore.specs.Recording.{Recorded, Continues}
 use Rattle.nutcore.specs.Calls.{room_of, is_finished}
@@ -213,17 +212,17 @@ module _ {S R : Type 0} (told : S → Told) (holds : R → Recorded) where
         (answered (ask old.server.state ready) answer) (told mid)
     pub does : Does (row_events old.server.state ready answer) (record old { sockets = mid }) new
 
-  -- What earlier turns noted is forgotten.
-  abbrev pub forgotten : Loop S R → TreeWaste → Loop S R
-  forgotten old waste = record old { server = forgetful old.server.state waste }
+  -- What earlier turns noted is forgotten, and as much waits to be taken apart as of that server.
+  abbrev pub forgotten : Loop S R → RunningServer → Loop S R
+  forgotten old server = record old { server = forgetful old.server.state server.waste }
 
   -- A turn that ends well: what is ready is found, by these sockets then, and its row is done.
   pub record IsTurn (soon : Bool) (old new : Loop S R) : Type 0 where
     pub ready : Ready
     pub mid : S
     pub found : IsFound soon old.server.state ready (told old.sockets) (told mid)
-    pub waste : TreeWaste
-    pub row : IsRow ready (record (forgotten old waste) { sockets = mid }) new
+    pub server : RunningServer
+    pub row : IsRow ready (record (forgotten old server) { sockets = mid }) new
 
   -- The server is as it was, and so is what is recorded of it.
   pub record IsLeft (old new : Loop S R) : Type 0 where
@@ -250,9 +249,9 @@ module _ {S R : Type 0} (told : S → Told) (holds : R → Recorded) where
   abbrev pub TurnGives : Bool → Loop S R → Result (Unit {0}) LoopFault → Loop S R → Type 0
   TurnGives soon old (Ok u) new = IsTurn soon old new
   TurnGives soon old (Err fault.Ready) new =
-      IsLeft (forgotten old new.server.waste) new × FailsToLook (told old.sockets) (told new.sockets)
+      IsLeft (forgotten old new.server) new × FailsToLook (told old.sockets) (told new.sockets)
   TurnGives soon old (Err fault.Accept) new =
-      IsLeft (forgotten old new.server.waste) new
+      IsLeft (forgotten old new.server) new
       × ((mid : S)
       × IsFound soon old.server.state readies.Newcomer (told old.sockets) (told mid)
       × Reports counted (told mid) [] (told new.sockets))
