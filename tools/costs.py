@@ -437,9 +437,9 @@ def turn_rows():
     yield from ("turn | instructions", "---|---:")
     large, small = {"large": SIZES["large"]}, {"small": SIZES["small"]}
     for what, count in {
-        "1,024 nodes of a lost driver's variables": dearest("*Server::forget", is_lost, sizes={"huge": (HUGE[0] - 1, 10)}),
+        "64 nodes of a lost driver's variables": dearest("*Server::forget", is_lost, sizes={"huge": (HUGE[0] - 1, 10)}),
         "the same, with 256 enum values each": dearest("*Server::forget", is_lost_with_enum_values, sizes={"huge": (1100, 10)}),
-        "1,024 nodes that one client's listing kept": dearest("*Server::forget", leaves, sizes=large),
+        "64 nodes that one client's listing kept": dearest("*Server::forget", leaves, sizes=large),
         "that listing's last bytes": dearest("*Server::step", takes_all, sizes=large),
         "trying 31 missing drivers": dearest("*drivers::connect*", lambda *_: time.sleep(3), sizes=small, missing=31),
         "the journal, after 97 refused `SET VAR`": dearest("*Journal::write*", sets_at_once, sizes=small, users=4),

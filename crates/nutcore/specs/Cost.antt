@@ -36,7 +36,7 @@ begun s = forgetful s no_waste
 abbrev pub has_waste : TreeWaste → Bool
 has_waste waste = not (waste.variables.trees == 0 && waste.commands.trees == 0)
 
--- At most 1,024 nodes are taken apart: as many fewer wait, or none.
+-- At most 64 nodes are taken apart: as many fewer wait, or none.
 pub record AreFewer (old new : TreeWaste) : Type 0 where
   pub count : ℕ
   pub most : count ≤ TAKEN_APART_LIMIT

@@ -60,7 +60,7 @@ impl Waste {
         self.commands.add(commands);
     }
 
-    /// Takes 1,024 nodes apart, or all that wait, and answers how many they were. One that a
+    /// Takes 64 nodes apart, or all that wait, and answers how many they were. One that a
     /// version shares stays as it is, and counts. It is a call of its own, since each event asks
     /// whether there are any, and would save the registers of this.
     #[inline(never)]
