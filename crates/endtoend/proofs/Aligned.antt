@@ -20,20 +20,7 @@ use Rattle.nutrequest.specs.declared.request.Request.{Request}
 use Rattle.endtoend.specs.OneOrder.{given_by_lines}
 use Rattle.endtoend.specs.Served.{IsLineOf, IsReadAsAsked, command_asked}
 use Rattle.endtoend.proofs.OneLine.{command-no_lf}
-
--- two lines in front, each with its LF
-same_lines : (a b x y : List ℕ) → has_lf a ≡ false → has_lf b ≡ false → with_lf a ++
-    x ≡ with_lf b ++ y →
-    (a ≡ b) × (x ≡ y)
-same_lines a b x y h k same =
-    let cut_a : split_line (with_lf a ++ x) ≡ Some (a, x) =
-    (first_line_is_cut_off (with_lf a ++ x) a x).1 (append_assoc a (10 ∷ []) x, h) in
-    let cut_b : split_line (with_lf b ++ y) ≡ Some (b, y) =
-    (first_line_is_cut_off (with_lf b ++ y) b y).1 (append_assoc b (10 ∷ []) y, k) in
-    let e : Some (a, x) ≡ Some (b, y) = sym cut_a ∙ ap split_line same ∙ cut_b in (
-      ap (λ (o : Option (List ℕ × List ℕ)). (unwrap_or o ([], [])).0) e,
-      ap (λ (o : Option (List ℕ × List ℕ)). (unwrap_or o ([], [])).1) e,
-    )
+use Rattle.nutwords.proofs.Answers.{one_line_first}
 
 pub data AreServed : List Request → List Execution → Type 0 where
   nothing : {requests : List Request} → AreServed requests []
@@ -67,7 +54,7 @@ are_served [] read (of_line s c line ∷ xs) whole rest same = absurd (no_more l
 are_served (request ∷ requests) read (of_line s c line ∷ xs) whole rest same =
     let sent : List ℕ = join_with_byte 32 (request_words request) in
     let reads : IsReadAsAsked request = All-head IsReadAsAsked request requests read in
-    let one = same_lines line sent (lines_of xs ++ rest) (flat_map request_line requests)
+    let one = one_line_first line sent (lines_of xs ++ rest) (flat_map request_line requests)
     (All-head HasNoLf (of_line s c line) xs whole)
     (command-no_lf sent (command_asked request) (reads sent refl))
     (sym (append_assoc (with_lf line) (lines_of xs) rest) ∙ same) in

@@ -24,16 +24,15 @@ use Rattle.nutrequest.specs.Reply.{Reply, Whole, reply, reply_from, first_of, la
 use Rattle.nutrequest.specs.Reply.{after_first, items_from, one_item, behind, is_count, is_nothing}
 use Rattle.nutrequest.specs.Reply.{is_frame}
 use Rattle.endtoend.specs.Frames.{item_words, IsItem, AFrameIsReadAsItsItems}
-use Rattle.endtoend.proofs.LineReading.{words_read, written_line, line_before}
+use Rattle.endtoend.proofs.LineReading.{written_line, line_before}
 use Rattle.nutrequest.specs.declared.limits.TheConstants.{ITEM_LIMIT}
-
-pub bytes_eq-same : (xs : List ℕ) → bytes_eq xs xs ≡ true
-bytes_eq-same xs = (bytes_eq-Decides xs xs).1 refl
+use Rattle.nutwords.proofs.FaultLemmas.{words_of-reads}
+use Rattle.nutdriver.proofs.SoundTrees.{bytes_same}
 
 -- words are after themselves with nothing left
 pub behind-same : (front rest : List (List ℕ)) → behind front (front ++ rest) ≡ Some rest
 behind-same [] rest = refl
-behind-same (word ∷ front) rest = rw (bytes_eq-same word) (behind-same front rest)
+behind-same (word ∷ front) rest = rw (bytes_same word) (behind-same front rest)
 
 -- the words of BEGIN and of END are those of the frame
 frame_known : (verb : List ℕ) (query : Query) →
@@ -65,14 +64,14 @@ item_read : (query : Query) (item : Item) (items : List Item) (rest : List ℕ)
 item_read Ups item items rest go i few = let e : ltb (length items) ITEM_LIMIT ≡ true =
     grind (arith, nat_tests) in rw (i.name, e) refl
 item_read (Var ups) item items rest go i few = let e : ltb (length items) ITEM_LIMIT ≡ true =
-    grind (arith, nat_tests) in rw (bytes_eq-same ups, i.name, e) refl
+    grind (arith, nat_tests) in rw (bytes_same ups, i.name, e) refl
 item_read (Rw ups) item items rest go i few = let e : ltb (length items) ITEM_LIMIT ≡ true =
-    grind (arith, nat_tests) in rw (bytes_eq-same ups, i.name, e) refl
+    grind (arith, nat_tests) in rw (bytes_same ups, i.name, e) refl
 item_read (Cmd ups) item items rest go i few = let e : ltb (length items) ITEM_LIMIT ≡ true =
-    grind (arith, nat_tests) in rw (bytes_eq-same ups, i.name, e)
+    grind (arith, nat_tests) in rw (bytes_same ups, i.name, e)
     (ap (λ value. go (items ++ record { name = item.name; value = value } ∷ [])) (sym (i.value refl)))
 item_read (Client ups) item items rest go i few = let e : ltb (length items) ITEM_LIMIT ≡ true =
-    grind (arith, nat_tests) in rw (bytes_eq-same ups, i.name, e)
+    grind (arith, nat_tests) in rw (bytes_same ups, i.name, e)
     (ap (λ value. go (items ++ record { name = item.name; value = value } ∷ [])) (sym (i.value refl)))
 
 -- a line that is read as these words
@@ -88,13 +87,13 @@ items_read : (query : Query) (text : List ℕ) (ls : List (List ℕ)) (items bef
     → items_from query before (lines (text ++ more)) ≡ Whole (before ++ items) more
 items_read query text (first ∷ []) [] before more (line {rest = rest} cut few (unfinished e f)) (r, t) known fits =
     ap (items_from query before) (the_first_line_is_found text first [] more cut few)
-    ∙ ap (next_items query before more) (words_read first (end_words query) r)
+    ∙ ap (next_items query before more) (words_of-reads first (end_words query) r)
     ∙ end_read query before more (λ all. items_from query all (lines more))
     ∙ ap (λ all. Whole all more) (sym (append-nil before))
 items_read query text (first ∷ ls) (item ∷ items) before more (line {rest = rest} cut few cuts)
     (r, reads) known fits =
     ap (items_from query before) (the_first_line_is_found text first rest more cut few)
-    ∙ ap (next_items query before (rest ++ more)) (words_read first (item_words query item) r)
+    ∙ ap (next_items query before (rest ++ more)) (words_of-reads first (item_words query item) r)
     ∙ item_read query item before (rest ++ more)
     (λ all. items_from query all (lines (rest ++ more))) (All-head (IsItem query) item items known) (omega arith)
     ∙ items_read query rest ls items (before ++ item ∷ []) more cuts reads
@@ -121,7 +120,7 @@ frame_read = λ query written items more h known few. whole query written items 
         (the_first_line_is_found (frame (kind_of query) (option_to_list (ups_of query)) written)
         first rest more cut few)
         ∙ ap (λ words. after_first (ListOf query) (first_of (ListOf query) words) (rest ++ more))
-        (words_read first (begin_words query) r)
+        (words_of-reads first (begin_words query) r)
         ∙ begin_read query (rest ++ more)
         ∙ items_read query rest ls items [] more cuts reads known (omega arith)
 
@@ -135,7 +134,7 @@ number_read ups number more count h =
     let r = written_line words words h in
     ap (reply_from (GetNumAttach ups)) (line_before words words more r)
     ∙ ap (λ ws. after_first (GetNumAttach ups) (first_of (GetNumAttach ups) ws) more)
-    (words_read r.line words r.reads)
+    (words_of-reads r.line words r.reads)
     ∙ (rw (behind-same (codes "NUMATTACH" ∷ ups ∷ []) (number ∷ [])) (rw count refl))
 
 -- the one line of a GET VAR
@@ -146,5 +145,5 @@ value_read ups name value texts more h =
     let words : List (List ℕ) = codes "VAR" ∷ ups ∷ name ∷ value ∷ [] in
     let r = written_line texts words h in
     ap (reply_from (GetVar ups name)) (line_before texts words more r)
-    ∙ ap (λ ws. after_first (GetVar ups name) (first_of (GetVar ups name) ws) more) (words_read r.line words r.reads)
+    ∙ ap (λ ws. after_first (GetVar ups name) (first_of (GetVar ups name) ws) more) (words_of-reads r.line words r.reads)
     ∙ (rw (behind-same (codes "VAR" ∷ ups ∷ name ∷ []) (value ∷ [])) refl)

@@ -28,7 +28,7 @@ use Rattle.nutwords.specs.declared.limits.TheConstants.{NAME_LIMIT, UPS_NAME_LIM
 none-not_some : {A : Type 0} {x : A} → None ≡ Some x → ⊥
 none-not_some h = cc
 
-some_same : {A : Type 0} {x y : A} → Some x ≡ Some y → x ≡ y
+pub some_same : {A : Type 0} {x y : A} → Some x ≡ Some y → x ≡ y
 some_same h = cc
 
 -- what is lawful was read as it is

@@ -14,7 +14,7 @@ use Rattle.nutwords.specs.Bytes.{is_bare}
 use Rattle.nutwords.specs.Frame.{line_of}
 use Rattle.nutwords.specs.Listing.{as_it_is, IsWritten, IsWrittenLine}
 use Rattle.nuttracking.specs.Id.{hyphen, last_digits, groups, id_text, digits_number, read_id, is_id_byte}
-use Rattle.nuttracking.proofs.PublicLaws.{ids_are_plain}
+use Rattle.nuttracking.proofs.PublicLaws.{ids_are_plain, is_read}
 use Rattle.nutanswer.specs.Orders.{ok_words}
 use Rattle.nutrequest.specs.declared.request.Request.{Request}
 use Rattle.nutrequest.specs.declared.request.Request.TheVariants.{List as ListOf, GetVar}
@@ -65,12 +65,6 @@ groups_stay digits h =
 id_stays : (id : ℕ) → Stays (id_text id)
 unfolding id_text
 id_stays id = groups_stay (last_digits 32 id) (digits_stay 32 id)
-
--- so what an id's text is read as is written as that text
-is_read : (text : List ℕ) (n : ℕ) (b : Bool) →
-    (if b then Some (digits_number text) else None) ≡ Some n → (b ≡ true) × (digits_number text ≡ n)
-is_read text n true e = (refl, ap (λ (o : Option ℕ). unwrap_or o 0) e)
-is_read text n false e = absurd (true≢false (sym (ap is_some e)))
 
 read_same : (id read : ℕ) → read_id (id_text id) ≡ Some read → id_text read ≡ id_text id
 unfolding read_id

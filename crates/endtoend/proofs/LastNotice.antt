@@ -21,6 +21,7 @@ use Rattle.nutcore.specs.Server.{ServerState, session, with_session, with_sessio
 use Rattle.nutcore.specs.Session.{SessionState, find, put}
 use Rattle.nutcore.specs.Sound.{IsSound, EachEventKeepsTheServerSound, ASoundServerIsLawful}
 use Rattle.nutcore.specs.Step.{after, after_by, pumped_until, refused_after, may_take, with_input, without_output}
+use Rattle.nutcore.proofs.Found.{find_id}
 
 pub data NoticeIsLast : List Execution → Type 0 where
   none : NoticeIsLast []
@@ -69,19 +70,6 @@ executed_lines (suc k) s c =
     both_lines (next_execution s c (next_line_for s c)) (lines_executed k (after_line s c) c)
     (next_lines s c (next_line_for s c)) (executed_lines k (after_line s c) c)
 
--- whose line is too long is over
-found_id : (c : ℕ) (xs : List SessionState) (x : SessionState) → find c xs ≡ Some x → x.id ≡ c
-found_id c [] x e = cc e
-found_id c (y ∷ ys) x e = by (eqb y.id c) refl e (found_id c ys x)
-  where
-    by : (b : Bool) → eqb y.id c ≡ b → cond b (Some y) (find c ys) ≡ Some x →
-        (find c ys ≡ Some x → x.id ≡ c)
-        → x.id ≡ c
-    by true own k later =
-        let same : y ≡ x = cc k in
-        subst (λ (z : SessionState). z.id ≡ c) same (eqb-true y.id c own)
-    by false other k later = later k
-
 put_found : (c : ℕ) (xs : List SessionState) (x y : SessionState) → y.id ≡ c → find c xs ≡ Some x
     → find c (put y xs) ≡ Some y
 put_found c [] x y own e = cc e
@@ -103,7 +91,7 @@ noticed_over t c long = by (session c t) refl long
         → is_over c (option_map_or (λ x. with_session t (with_notice x)) (session c t) t) ≡ true
     by None e k = cc k
     by (Some x) e k =
-        let own : x.id ≡ c = found_id c t.sessions x e in
+        let own : x.id ≡ c = find_id c t.sessions x e in
         let noted : find c (put (with_notice x) t.sessions) ≡ Some (with_notice x) =
         put_found c t.sessions x (with_notice x) (ap (λ b. (if b then notified x else x).id) k ∙ own) e in
         ap (λ o. is_over c (option_map_or (λ x. with_session t (with_notice x)) o t)) e

@@ -13,10 +13,7 @@ use Rattle.nutwords.proofs.PublicLaws.{first_line_is_cut_off, lines_are_read_bac
 use Rattle.nutrequest.specs.Lines.{lines, Line}
 use Rattle.nutwords.specs.declared.limits.TheConstants.{LINE_ROOM}
 use Rattle.nutrequest.proofs.PublicLaws.{the_first_line_is_found}
-
--- The words of a line that reads as them.
-pub words_read : (line : List ℕ) (words : List (List ℕ)) → Reads line words → words_of line ≡ words
-words_read line words r = ap (λ w. result_unwrap_or w []) ((read_line_is_the_grammar line words).1 r)
+use Rattle.nutwords.proofs.FaultLemmas.{words_of-reads}
 
 -- A line that is written so: it has no LF but its last byte, it is short enough, and it reads as
 -- its words.

@@ -13,6 +13,7 @@ use Rattle.std.proofs.lemmas.Str.Parse.{digit_from_value}
 use Rattle.nutwords.specs.Bytes.{is_bare}
 use Rattle.nutwords.specs.Natural.{is_digit, is_natural, up_to, read_natural}
 use Rattle.nutrequest.specs.Reply.{is_count}
+use Rattle.nutwords.proofs.Digits.{natural_of}
 
 pub digits_all : (ds : List ℕ) → AllDigits 10 ds → (list_all is_digit ds ≡ true) ×
     (list_all is_bare ds ≡ true)
@@ -23,10 +24,6 @@ digits_all (d ∷ ds) all =
       and_from (is_digit d) (list_all is_digit ds) (grind (arith, nat_tests)) rest.0,
       and_from (is_bare d) (list_all is_bare ds) (grind (arith, nat_tests)) rest.1,
     )
-
-natural_of : (ds : List ℕ) → list_all is_digit ds ≡ true → 48 < get_or ds 0 0 → is_natural ds ≡ true
-natural_of [] all first = absurd (omega (arith, first))
-natural_of (d ∷ ds) all first = and_from (list_all is_digit (d ∷ ds)) _ all (grind (arith, nat_tests))
 
 -- a number that is written is read
 pub written_read : (most n : ℕ) → n ≤ most → most ≤ 1000000000 → read_natural most (decimal n) ≡ Some n

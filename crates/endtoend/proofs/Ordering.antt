@@ -17,15 +17,7 @@ use Rattle.nutrequest.specs.declared.request.Request.{Request}
 use Rattle.endtoend.specs.OneOrder.{given_by_lines}
 use Rattle.endtoend.specs.Served.{IsLineOf}
 use Rattle.endtoend.proofs.Aligned.{AreServed, nothing, noticed, served, IsQuiet}
-
--- in what begins with the next line
-in_next : (r : Request) (left : List Request) (more : List ℕ)
-    → has_order_in (r ∷ left) (request_line r ++ more) ≡ (is_order r || has_order_in left more)
-in_next r left more =
-    ap (λ b. b && (is_order r || has_order_in left (drop (length (request_line r)) (request_line r ++ more))))
-    ((starts_is Decides-eqb (request_line r ++ more) (request_line r)
-    (starts_with eqb (request_line r ++ more) (request_line r)) refl).1 more refl)
-    ∙ ap (λ bs. is_order r || has_order_in left bs) (drop-append_seam (request_line r) more)
+use Rattle.nutclient.proofs.Ordering.{in_next}
 
 in_served : (r : Request) (left : List Request) (line lines rest : List ℕ) → IsLineOf r line
     → has_order_in (r ∷ left) ((with_lf line ++ lines) ++ rest) ≡

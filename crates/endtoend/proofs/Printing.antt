@@ -53,13 +53,14 @@ use Rattle.endtoend.specs.Printed.{UpscPrintsTheUpses}
 use Rattle.endtoend.proofs.FrameReading.{frame_read, number_read, value_read}
 use Rattle.endtoend.proofs.Numbers.{written_number}
 use Rattle.nutwords.proofs.PublicLaws.{quoted_is_short}
-use Rattle.endtoend.proofs.Texts.{text_short, name_written, ups_name_written, address_written}
+use Rattle.endtoend.proofs.Texts.{name_written, ups_name_written, address_written}
 use Rattle.endtoend.proofs.Texts.{quoted_written, shown_lawful, description_lawful}
 use Rattle.endtoend.proofs.Requests.{list_var_read, list_rw_read, list_cmd_read, list_client_read}
 use Rattle.endtoend.proofs.Requests.{list_ups_read, num_attach_read, get_var_read, line_of_three}
 use Rattle.endtoend.proofs.Requests.{line_of_four}
 use Rattle.nutwords.specs.declared.limits.TheConstants.{LINE_ROOM, NAME_LIMIT, UPS_NAME_LIMIT, ADDRESS_LIMIT}
 use Rattle.nutrequest.specs.declared.limits.TheConstants.{ITEM_LIMIT}
+use Rattle.nutwords.proofs.TextLemmas.{text_short}
 
 -- one request, whose reply is whole
 printed_whole : (request : Request) (form : Form) (bytes : List ℕ) (items : List Item)

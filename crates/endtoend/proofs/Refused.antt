@@ -18,7 +18,8 @@ use Rattle.nutrequest.specs.Reply.{expected_of, refusal_of, after_first, one_ite
 use Rattle.nutclient.specs.Requests.{reply_behind, last_reply_after}
 use Rattle.nutclient.specs.Printed.{printed, printed_of}
 use Rattle.endtoend.specs.Refused.{is_granted_by_ok, ARefusalEndsTheJob}
-use Rattle.endtoend.proofs.LineReading.{written_line, words_read, line_before}
+use Rattle.endtoend.proofs.LineReading.{written_line, line_before}
+use Rattle.nutwords.proofs.FaultLemmas.{words_of-reads}
 
 -- a word that is written as it is, and that a client reads as that of an error
 record IsErrorWord (word : List ℕ) : Type 0 where
@@ -110,7 +111,7 @@ pub first_read : (request : Request) (texts words : List (List ℕ)) (more : Lis
 first_read request texts words more h =
     let r = written_line texts words h in
     ap (reply_from request) (line_before texts words more r) ∙
-    ap (λ ws. after_first request (first_of request ws) more) (words_read r.line words r.reads)
+    ap (λ ws. after_first request (first_of request ws) more) (words_of-reads r.line words r.reads)
 
 -- no request is granted by ERR
 not_expected : (request : Request) (word : List ℕ) → expected_of request (codes "ERR" ∷ word ∷ []) ≡ None

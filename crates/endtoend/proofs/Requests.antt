@@ -29,7 +29,8 @@ use Rattle.nutrequest.specs.declared.request.Request.TheVariants as requests
 use Rattle.nutclient.specs.declared.limits.TheConstants.{USER_LIMIT, PASSWORD_LIMIT}
 use Rattle.endtoend.specs.Served.{IsLineOf, IsReadAsAsked}
 use Rattle.endtoend.proofs.LineReading.{written_line}
-use Rattle.endtoend.proofs.Texts.{text_short, text_all, text_itself, name_written, ups_name_written, quoted_written}
+use Rattle.endtoend.proofs.Texts.{text_itself, name_written, ups_name_written, quoted_written}
+use Rattle.nutwords.proofs.TextLemmas.{text_short, text_all}
 
 -- how long a line of two to five words is
 line_of_two : (a b : List ℕ) → length (line_of (a ∷ b ∷ [])) ≡ length a + length b + 2

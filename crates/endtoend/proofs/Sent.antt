@@ -33,7 +33,8 @@ use Rattle.endtoend.proofs.Requests.{IsWord, list_var_read, list_rw_read, list_c
 use Rattle.endtoend.proofs.Requests.{list_client_read, list_ups_read, num_attach_read, get_var_read}
 use Rattle.endtoend.proofs.Requests.{set_read, command_read, username_read, password_read}
 use Rattle.endtoend.proofs.Requests.{set_tracking_read}
-use Rattle.endtoend.proofs.Texts.{text_all, text_same}
+use Rattle.endtoend.proofs.Texts.{text_same}
+use Rattle.nutwords.proofs.TextLemmas.{text_all}
 
 -- what the words are read as
 pub name_read : (text : List ℕ) → IfSome (lawful (read_name text)) (λ name. is_name name ≡ true)

@@ -29,6 +29,7 @@ use Rattle.endtoend.specs.Shutdown.{ListsStatus, EveryAnswerShowsAForcedShutdown
 use Rattle.endtoend.proofs.FromDriver.{all_at}
 use Rattle.endtoend.proofs.Printing.{name_kept}
 use Rattle.endtoend.proofs.Requests.{get_var_read}
+use Rattle.endtoend.proofs.Handing.{some_same}
 
 -- where an element is
 record HasPlace {A : Type 0} (xs : List A) (x : A) : Type 0 where
@@ -43,9 +44,6 @@ place_of (y ∷ xs) x zero few is = record { before = []; after = xs; is = ap (�
 place_of (y ∷ xs) x (suc k) few is =
     let p = place_of xs x k (omega arith) is in
     record { before = y ∷ p.before; after = p.after; is = ap (λ zs. y ∷ zs) p.is }
-
-some_same : {A : Type 0} {x y : A} → Some x ≡ Some y → x ≡ y
-some_same h = cc
 
 module _ (marks : AForcedShutdownReachesEverybody) (held : WhatIsListedIsWhatIsHeld) (each : EachIsListedOnce)
     (fresh : WhateverIsAnsweredIsFresh) (prints : UpscPrintsTheVariable) (s : ServerState) (c : ℕ)

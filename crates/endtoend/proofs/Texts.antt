@@ -19,19 +19,8 @@ use Rattle.nutlisting.specs.Shown.{shown, ups_description}
 use Rattle.nutlisting.specs.declared.lines.TheConstants.{SHOWN_LIMIT}
 use Rattle.nutusers.specs.declared.limits.TheConstants.{DESCRIPTION_LIMIT}
 use Rattle.nutwords.specs.declared.limits.TheConstants.{VALUE_LIMIT, NAME_LIMIT, UPS_NAME_LIMIT, ADDRESS_LIMIT}
-
--- what is read as a text: its length, its bytes, and itself
-pub text_short : (allowed : ℕ → Bool) (may_be_empty : Bool) (most : ℕ) (bytes : List ℕ) →
-    is_ok (read_text allowed may_be_empty most bytes) ≡ true → length bytes ≤ most
-text_short allowed may_be_empty most bytes h = grind (arith, nat_tests, common_steps)
-
-pub text_all : (allowed : ℕ → Bool) (may_be_empty : Bool) (most : ℕ) (bytes : List ℕ) →
-    is_ok (read_text allowed may_be_empty most bytes) ≡ true → list_all allowed bytes ≡ true
-text_all allowed may_be_empty most bytes h = grind (arith, nat_tests, common_steps)
-
-pub text_some : (allowed : ℕ → Bool) (most : ℕ) (bytes : List ℕ) →
-    is_ok (read_text allowed false most bytes) ≡ true → 0 < length bytes
-text_some allowed most bytes h = grind (arith, nat_tests, common_steps)
+use Rattle.nutwords.proofs.TextLemmas.{text_short, text_all, text_some, address_byte-bare}
+use Rattle.nutwords.proofs.Listing.{name_byte-bare}
 
 pub text_itself : (allowed : ℕ → Bool) (may_be_empty : Bool) (most : ℕ) (bytes : List ℕ) →
     is_ok (read_text allowed may_be_empty most bytes) ≡ true →
@@ -41,12 +30,6 @@ text_itself allowed may_be_empty most bytes h = grind (arith, nat_tests, common_
 pub text_same : (allowed : ℕ → Bool) (may_be_empty : Bool) (most : ℕ) (bytes read : List ℕ)
     → read_text allowed may_be_empty most bytes ≡ Ok read → bytes ≡ read
 text_same allowed may_be_empty most bytes read h = grind (arith, nat_tests, common_steps)
-
-name_byte-bare : (b : ℕ) → is_name_byte b ≡ true → is_bare b ≡ true
-name_byte-bare b h = grind (arith, nat_tests)
-
-address_byte-bare : (b : ℕ) → is_address_byte b ≡ true → is_bare b ≡ true
-address_byte-bare b h = grind (arith, nat_tests)
 
 pub all_bare : (allowed : ℕ → Bool) →
     ((b : ℕ) → allowed b ≡ true → is_bare b ≡ true) → (bytes : List ℕ) →

@@ -16,6 +16,7 @@ use Rattle.nutanswer.specs.Checks.{ready, live, driver_not_connected, data_stale
 use Rattle.nutanswer.specs.Checks.{access_denied, known_variable, first_id, order_id}
 use Rattle.nutanswer.specs.Answer.{Answer}
 use Rattle.nutanswer.specs.Rows.{HasRight, IsIdOfOrder}
+use Rattle.std.proofs.lemmas.Bool.{and_parts}
 
 -- what a check that holds says
 pub unless_ok : (b : Bool) (word : ErrWord) → unless b word ≡ Ok tt → b ≡ true
@@ -29,9 +30,6 @@ none_given o word h = grind arith
 
 is_usable : (r : Readiness) → (driver_not_connected r >> data_stale r) ≡ Ok tt → r ≡ usable
 is_usable r h = grind arith
-
-pub both_true : (a b : Bool) → (a && b) ≡ true → (a ≡ true) × (b ≡ true)
-both_true a b h = grind arith
 
 pub has_right : (s : Seen) (asker : AskerSeen) (right : Right) → user s asker right ≡ Ok tt →
     HasRight s asker right

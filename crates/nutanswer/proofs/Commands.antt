@@ -3,7 +3,7 @@
 use Rattle.std.proofs.Common.{◌≡◌, ◌≤◌, ℕ, true, List, [], ◌∷◌, Option, Some}
 use Rattle.std.proofs.Common.{None, Result, Ok, Err, refl, ap, ◌&&◌, length, inl, inr, arith}
 use Rattle.std.specs.Prelude.{codes, IsTrue}
-use Rattle.std.proofs.lemmas.Bool.{leb-true}
+use Rattle.std.proofs.lemmas.Bool.{leb-true, and_parts}
 use Rattle.nutwords.specs.Frame.{line_of}
 use Rattle.nuttracking.specs.Tracking.{next_id}
 use Rattle.nutdriver.specs.Variable.{VariableState}
@@ -36,7 +36,7 @@ use Rattle.nutusers.specs.Descriptions.{text_at}
 use Rattle.nutusers.specs.UpsList.{IsLawfulUps}
 use Rattle.nutlisting.specs.Shown.{shown, description_of, text_or_unavailable}
 use Rattle.nutanswer.proofs.CheckLemmas as checks
-use Rattle.nutanswer.proofs.CheckLemmas.{unless_ok, none_given, both_true, has_right}
+use Rattle.nutanswer.proofs.CheckLemmas.{unless_ok, none_given, has_right}
 use Rattle.nutanswer.proofs.Fresh as fresh
 use Rattle.nutanswer.proofs.Plain.{quoted_plain, type_plain, progress_plain}
 use Rattle.nutlisting.specs.Lawful.{IsSoundEntry}
@@ -181,7 +181,7 @@ module _ (s : Seen) (asker : AskerSeen) where
   row (commands.SetVar ups (Some name) (Some value)) =
       set_row (IsRow s asker (commands.SetVar ups (Some name) (Some value))) refused s asker ups name value
       (λ u x id right named going there writable short may_be id_is fits.
-      let both = both_true _ _ may_be in
+      let both = and_parts _ _ may_be in
       orders u.id (set_line name value id) id (λ e. inl (record {
         name = name;
         value = value;

@@ -2,6 +2,6 @@ pub mod Underway
 pub mod Printing
 pub mod Ports
 pub mod Done
-mod Ordering
+pub mod Ordering
 mod Meanings
 mod Warned

@@ -3,9 +3,8 @@ use Rattle.std.proofs.Common.{◌≡◌, ◌≤◌, ℕ, Bool, true, false, List
 use Rattle.std.proofs.Common.{length, arith, refl, leb}
 use Rattle.std.specs.Prelude.{bytes_eq, if◌then◌else◌}
 use Rattle.std.specs.List.{list_all}
-use Rattle.std.proofs.lemmas.Bool.{leb-true}
+use Rattle.std.proofs.lemmas.Bool.{leb-true, and_parts}
 use Rattle.nutclient.specs.Meaning.{meaning, meaning_in, meanings}
-use Rattle.nutclient.proofs.Ports.{and_parts}
 
 abbrev is_short : List ℕ × List ℕ → Bool
 is_short row = leb (length row.1) 100

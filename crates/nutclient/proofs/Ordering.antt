@@ -56,7 +56,7 @@ or_assoc true b c = refl
 or_assoc false b c = refl
 
 -- in what begins with the next line
-in_next : (r : Request) (left : List Request) (more : List ℕ)
+pub in_next : (r : Request) (left : List Request) (more : List ℕ)
     → has_order_in (r ∷ left) (request_line r ++ more) ≡ (is_order r || has_order_in left more)
 in_next r left more =
     ap (λ b. b && (is_order r || has_order_in left (drop (length (request_line r)) (request_line r ++ more))))

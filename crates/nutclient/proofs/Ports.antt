@@ -10,12 +10,7 @@ use Rattle.std.specs.Char.{digit_value}
 use Rattle.std.specs.Str.Parse.{AllDigits, IsNumeral, digits_value, without_leading_plus}
 use Rattle.nutwords.specs.Natural.{is_digit}
 use Rattle.nutclient.specs.Target.{is_numeral, port_of}
-
--- both tests pass
-pub and_parts : (a b : Bool) → (a && b) ≡ true → (a ≡ true) × (b ≡ true)
-and_parts true true h = (refl, refl)
-and_parts true false h = cc
-and_parts false b h = cc
+use Rattle.std.proofs.lemmas.Bool.{and_parts}
 
 digit_value-below : (d : ℕ) → is_digit d ≡ true → digit_value d < 10
 digit_value-below d h = grind (arith, nat_tests, common_steps, h)

@@ -7,6 +7,7 @@ use Rattle.nutrequest.specs.declared.faults.ClientFault.TheVariants.{ErrWord}
 use Rattle.nutrequest.specs.Orders.{has_order_in}
 use Rattle.nutclient.specs.Why.{is_refusal, look_first, named_reason, subject_of, warned, why_of}
 use Rattle.nutclient.specs.Why.{NoOrderIsGivenUnseen}
+use Rattle.std.proofs.Math.Bool.{and-false}
 
 pub warned_some : (why : List ℕ) → (length why == 0) ≡ false → (why ++ codes "; ") ++ look_first ≡ warned why
 warned_some [] h = cc h
@@ -15,10 +16,6 @@ warned_some (b ∷ why) h = append_assoc (b ∷ why) (codes "; ") look_first
 warned_ends : (why : List ℕ) → (front : List ℕ) × (warned why ≡ front ++ look_first)
 warned_ends [] = ([], refl)
 warned_ends (b ∷ why) = (b ∷ why ++ codes "; ", sym (append_assoc (b ∷ why) (codes "; ") look_first))
-
-and_false : (b : Bool) → (b && false) ≡ false
-and_false true = refl
-and_false false = refl
 
 pub unseen : NoOrderIsGivenUnseen
 unseen = record {
@@ -29,5 +26,5 @@ unseen = record {
   not_sent = λ requests sent fault cause none.
       ap (λ b. why_of (b && not (is_refusal fault)) (subject_of requests) fault cause) none;
   refused = λ requests sent word cause.
-      ap (λ b. why_of b (subject_of requests) (ErrWord word) cause) (and_false (has_order_in requests sent));
+      ap (λ b. why_of b (subject_of requests) (ErrWord word) cause) (and-false (has_order_in requests sent));
 }

@@ -1,5 +1,5 @@
-mod Common
-mod Found
+pub mod Common
+pub mod Found
 mod Progress
 mod Changed
 mod Changes
@@ -48,7 +48,7 @@ mod Taking
 mod TakingAmongOthers
 mod NotStuck
 mod Listed
-mod DriverRuns
+pub mod DriverRuns
 mod FreshRuns
 mod Due
 mod TrackedRuns

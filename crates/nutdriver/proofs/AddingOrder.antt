@@ -35,8 +35,9 @@ use Rattle.nutdriver.specs.Sound.{HasNoRepeats, IsSoundVariable, IsSoundTree, Ea
 use Rattle.nutdriver.specs.LastLine.{changes}
 use Rattle.nutdriver.specs.Additions.{unless_taken, kept_additions, added_value, takes_value, added_range}
 use Rattle.nutdriver.specs.Additions.{takes_range, ListsAreInTheOrderOfAdding}
-use Rattle.nutdriver.proofs.Histories.{ChangeLaws, StepDoes, equal_by, apart_by, lines_hold}
+use Rattle.nutdriver.proofs.Histories.{ChangeLaws, StepDoes, apart_by, lines_hold}
 use Rattle.nutdriver.proofs.SoundTrees.{none_once, empty_sound}
+use Rattle.nutmap.proofs.Finite.{equal_when}
 
 -- ---- one line more
 abbrev one_if : {X : Type 0} → Option X → List X
@@ -113,7 +114,7 @@ module _ {X : Type 0} (items : VariableState → List X) where
           (items_of (value_at byte_order old name))
       by_name true e =
           let same : this ≡ name = (bytes_eq-Decides this name).0 e in
-          ap items_of (one.here name (equal_by (byte_order this name) (is_eq-slice_cmp this name ∙ e)))
+          ap items_of (one.here name (equal_when (byte_order this name) (is_eq-slice_cmp this name ∙ e)))
           ∙ here
           ∙ ap (λ o. moved (takes true) (added true) (items_of o)) (sym is ∙ ap (value_at byte_order old) same)
       by_name false e =

@@ -24,6 +24,7 @@ use Rattle.nutdriver.specs.DriverStep.{driver_step, is_change}
 use Rattle.nutdriver.specs.Report.{after_step, after_reading, after_line, Heard, after_heard}
 use Rattle.nutdriver.specs.Sound.{IsSoundTree, EachLineKeepsTheTreeSound}
 use Rattle.nutdriver.specs.LastLine.{change_of, changes}
+use Rattle.nutmap.proofs.Finite.{equal_when}
 
 -- nutmap's laws of a change
 pub record ChangeLaws : Type 0 where
@@ -32,11 +33,6 @@ pub record ChangeLaws : Type 0 where
       ChangesOneKey byte_order map (insert_entry byte_order map name v) name (Some v)
   pub removed : (map : List (List ℕ × VariableState)) (name : List ℕ) → HasRisingKeys byte_order map
       → ChangesOneKey byte_order map (remove_entry (is_at (byte_order name)) map) name None
-
-pub equal_by : (o : Ordering) → is_eq o ≡ true → o ≡ Equal
-equal_by Less h = absurd (cc)
-equal_by Equal h = refl
-equal_by Greater h = absurd (cc)
 
 pub apart_by : (o : Ordering) → is_eq o ≡ false → o ≢ Equal
 apart_by o h = λ same. true≢false (sym (ap is_eq same) ∙ h)
@@ -50,7 +46,7 @@ changed_key old new this after one name = by_name (bytes_eq this name) refl
   where
     by_name : (b : Bool) → bytes_eq this name ≡ b
         → value_at byte_order new name ≡ cond b after (value_at byte_order old name)
-    by_name true e = one.here name (equal_by (byte_order this name) (is_eq-slice_cmp this name ∙ e))
+    by_name true e = one.here name (equal_when (byte_order this name) (is_eq-slice_cmp this name ∙ e))
     by_name false e = one.elsewhere name (apart_by (byte_order this name) (is_eq-slice_cmp this name ∙ e))
 
 -- what holds of the tree where a line changes it, and else it is left

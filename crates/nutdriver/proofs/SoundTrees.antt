@@ -46,11 +46,7 @@ use Rattle.nutdriver.specs.Sound.{HasNoRepeats, IsSoundRange, IsSoundVariable, I
 use Rattle.nutdriver.proofs.TreeLemmas.{CountsAdded, CountsReplaced, CountsTakenOut, KeepsAbsent}
 use Rattle.nutdriver.proofs.TreeLemmas.{few_inserted, few_removed, keys_of-insert_entry}
 use Rattle.nutdriver.proofs.TreeLemmas.{keys_of-remove_entry}
-
--- ---- lists without repeats
-neither : (a b : Bool) → (a || b) ≡ false → (a ≡ false) × (b ≡ false)
-neither true b h = absurd (cc)
-neither false b h = (refl, h)
+use Rattle.std.proofs.lemmas.Bool.{or_parts}
 
 module _ {X : Type 0} (test : X → X → Bool) (same : (x : X) → test x x ≡ true) where
   -- what no item passes is none of the items
@@ -58,9 +54,9 @@ module _ {X : Type 0} (test : X → X → Bool) (same : (x : X) → test x x ≡
       k < length xs → get_or xs k d ≢ y
   apart [] y h k d inside = absurd (omega (arith, inside))
   apart (x ∷ xs) y h zero d inside =
-      λ is. true≢false (sym (same x) ∙ ap (test x) is ∙ (neither (test x y) (list_any (λ x. test x y) xs) h).0)
+      λ is. true≢false (sym (same x) ∙ ap (test x) is ∙ (or_parts (test x y) (list_any (λ x. test x y) xs) h).0)
   apart (x ∷ xs) y h (suc k) d inside =
-      apart xs y (neither (test x y) (list_any (λ x. test x y) xs) h).1 k d (omega (arith, inside))
+      apart xs y (or_parts (test x y) (list_any (λ x. test x y) xs) h).1 k d (omega (arith, inside))
 
   pushed_once : (xs : List X) (y : X) → HasNoRepeats xs → list_any (λ x. test x y) xs ≡
       false → HasNoRepeats (xs ++ y ∷ [])
@@ -77,7 +73,7 @@ length-pushed : {X : Type 0} (xs : List X) (y : X) (limit : ℕ) → length xs <
     length (xs ++ y ∷ []) ≤ limit
 length-pushed xs y limit room = omega (arith, room, length-append xs (y ∷ []))
 
-bytes_same : (bytes : List ℕ) → bytes_eq bytes bytes ≡ true
+pub bytes_same : (bytes : List ℕ) → bytes_eq bytes bytes ≡ true
 bytes_same bytes = (bytes_eq-Decides bytes bytes).1 refl
 
 range_same : (range : Range) → is_same_range range range ≡ true

@@ -31,6 +31,7 @@ use Rattle.nutlisting.specs.Lawful.{IsLawfulText, room, TextsAreLawful, LawfulWo
 use Rattle.nutlisting.specs.Lines.{IsWholeLine}
 use Rattle.nutlisting.specs.Shown.{shown}
 use Rattle.nutlisting.specs.declared.lines.TheConstants.{SHOWN_LIMIT}
+use Rattle.nutwords.proofs.TextLemmas.{text_short, text_all, all_also}
 
 -- each byte is lawful
 abbrev pub Lawful : List ℕ → Type 0
@@ -41,21 +42,6 @@ both_lawful a b h k = list_all-append is_lawful a b ∙ and_from (list_all is_la
 
 pub byte_lawful : (b : ℕ) (text : List ℕ) → is_lawful b ≡ true → Lawful text → Lawful (b ∷ text)
 byte_lawful b text h k = and_from (is_lawful b) (list_all is_lawful text) h k
-
--- what is read as a text has only these bytes, and no more of them
-pub text_all : (allowed : ℕ → Bool) (may_be_empty : Bool) (most : ℕ) (bytes : List ℕ) →
-    is_ok (read_text allowed may_be_empty most bytes) ≡ true → list_all allowed bytes ≡ true
-text_all allowed may_be_empty most bytes h = grind (arith, nat_tests, common_steps)
-
-text_short : (allowed : ℕ → Bool) (may_be_empty : Bool) (most : ℕ) (bytes : List ℕ) →
-    is_ok (read_text allowed may_be_empty most bytes) ≡ true → length bytes ≤ most
-text_short allowed may_be_empty most bytes h = grind (arith, nat_tests, common_steps)
-
--- bytes that pass a test pass each weaker one
-pub all_also : (p q : ℕ → Bool) → ((b : ℕ) → p b ≡ true → q b ≡ true) →
-    (bytes : List ℕ) → list_all p bytes ≡ true → list_all q bytes ≡ true
-all_also p q each [] h = refl
-all_also p q each (b ∷ bytes) h = grind (arith, each b, all_also p q each bytes)
 
 name_byte : (b : ℕ) → is_name_byte b ≡ true → is_lawful b ≡ true
 name_byte b h = grind (arith, nat_tests)

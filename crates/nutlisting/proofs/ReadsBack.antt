@@ -31,7 +31,9 @@ use Rattle.nutlisting.specs.ReadsBack.{variable_words, enum_words, range_words, 
 use Rattle.nutlisting.specs.ReadsBack.{ReadsBack, LawfulListingsReadBack}
 use Rattle.nutlisting.specs.Shown.{shown, ups_description}
 use Rattle.nutlisting.specs.declared.lines.TheConstants.{SHOWN_LIMIT}
-use Rattle.nutlisting.proofs.Lawful.{text_all, all_also, joined_text, texts_are_lawful}
+use Rattle.nutlisting.proofs.Lawful.{joined_text, texts_are_lawful}
+use Rattle.nutwords.proofs.TextLemmas.{text_all, all_also, text_some, address_byte-bare}
+use Rattle.nutwords.proofs.Listing.{name_byte-bare}
 
 -- a word of a line: what it means, how it is written, and that it has at most so many bytes
 record Word : Type 0 where
@@ -40,11 +42,6 @@ record Word : Type 0 where
   most : ℕ
   written : IsWritten shown meant
   text : IsLawfulText most shown
-
--- a name and an address are written as they are
-text_some : (allowed : ℕ → Bool) (most : ℕ) (bytes : List ℕ) →
-    is_ok (read_text allowed false most bytes) ≡ true → 0 < length bytes
-text_some allowed most bytes h = grind (arith, nat_tests, common_steps)
 
 abbrev bare_word : (allowed : ℕ → Bool) (most : ℕ) (bytes : List ℕ) →
     ((b : ℕ) → allowed b ≡ true → is_bare b ≡ true) →
@@ -59,12 +56,6 @@ bare_word allowed most bytes bare h text =
           (all_also allowed is_bare bare bytes (text_all allowed false most bytes h));
       text = text;
     }
-
-name_byte-bare : (b : ℕ) → is_name_byte b ≡ true → is_bare b ≡ true
-name_byte-bare b h = grind (arith, nat_tests)
-
-address_byte-bare : (b : ℕ) → is_address_byte b ≡ true → is_bare b ≡ true
-address_byte-bare b h = grind (arith, nat_tests)
 
 abbrev name_word : (name : List ℕ) → IsTrue (is_name name) → Word
 name_word name h = bare_word is_name_byte NAME_LIMIT name name_byte-bare h (texts_are_lawful.names name h)

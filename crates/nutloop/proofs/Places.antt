@@ -14,10 +14,7 @@ use Rattle.nutloop.specs.declared.over_mio.MioSockets.{MioSockets}
 use Rattle.nutloop.specs.declared.over_mio.door.Newcomer.{Newcomer}
 use Rattle.nutloop.specs.declared.over_mio.places.Admission.{Admission}
 use Rattle.nutloop.specs.Places.{BecomesOf, Decides, EndsIfSilent, IsDoneWith, EndsSilent, Goes, NobodyIsSilent, is_silent, silence}
-
-and_false : (a : Bool) → (a && false) ≡ false
-and_false true = refl
-and_false false = refl
+use Rattle.std.proofs.Math.Bool.{and-false}
 
 -- A slice of so many elements stands in the place of all.
 pub refilled : {X : Type 0} (xs ws : List X) → length ws ≡ length xs → refill (length xs) xs ws ≡ ws
@@ -32,7 +29,7 @@ unfolding is_silent
 gone s leave least second x y goes =
     let leaving : y.leaving ≡ Some leave = ap (λ (c : Client). c.leaving) goes.only in
     ap (λ l. nat_le least (silence second y) && not (client_may s Read y) && is_none l) leaving
-    ∙ and_false (nat_le least (silence second y) && not (client_may s Read y))
+    ∙ and-false (nat_le least (silence second y) && not (client_may s Read y))
 
 by_test : (s : ServerState) (idle second : ℕ) (x : Client) (new : Option Client) (test : Bool) →
     is_silent s idle second x ≡ test →

@@ -45,6 +45,8 @@ use Rattle.nutloop.specs.SocketToSocket.{DriversAreServedByTheirSockets, ADriver
 use Rattle.nutloop.proofs.Moving.{Fit}
 use Rattle.nutloop.proofs.Turning.{Between, all_are_moved, none, taken_fits, taken_is_along}
 use Rattle.nutloop.proofs.Turning.{came_fits, came_is_along, reported_since}
+use Rattle.nutcore.proofs.DriverRuns.{first_stays}
+use Rattle.nutcore.proofs.Common.{never_both}
 
 -- What was fed to the client, as far as there was room for it: all of what its socket gave, since
 -- no more is read.
@@ -102,10 +104,6 @@ asked_is c s (event.Open a) over is = sym (none over)
 asked_is c s (event.Took d n) over is = sym (none over)
 asked_is c s (event.Close d) over is = sym (none over)
 asked_is c s (event.Id n) over is = sym (none over)
-
-never_both : {A : Type 0} (b : Bool) → b ≡ true → b ≡ false → A
-never_both true e f = cc f
-never_both false e f = cc e
 
 begins_joined : (xs ys zs : List ℕ) → IsBeginning ys zs → IsBeginning (xs ++ ys) (xs ++ zs)
 begins_joined xs ys zs b = (b.0, append_assoc xs ys b.0 ∙ ap (λ v. xs ++ v) b.1)
@@ -285,13 +283,6 @@ took_is u s (event.Took d n) h = refl
 took_is u s (event.Close d) h = refl
 took_is u s (event.Id n) h = refl
 
--- While a driver isn't lost, it has one connection.
-is_there : (u : UpsId) (s : ServerState) (es : List Event) (os : List Outcome) →
-    StaysConnected u s es os → has_driver u s ≡ true
-is_there u s [] os h = h
-is_there u s (e ∷ es) [] h = h
-is_there u s (e ∷ es) (o ∷ os) h = h.0
-
 record IsOne (u : UpsId) (s : ServerState) (es : List Event) (os : List Outcome) : Type 0 where
   pub given : List driver.ServerLine
   pub is : connections u s es os ≡ driver.last (record { given = given; taken = along (took_of u) s es os })
@@ -303,7 +294,7 @@ is_one u s (e ∷ es) [] h = record { given = []; is = refl }
 is_one u s (e ∷ es) (o ∷ os) h =
     let rest = is_one u (after s e o) es os h.1 in
     let stays : driver.is_lost_by u s e o ≡ false =
-    ap (λ b. has_driver u s && not b) (is_there u (after s e o) es os h.1) ∙ and-false (has_driver u s) in
+    ap (λ b. has_driver u s && not b) (first_stays u (after s e o) es os h.1) ∙ and-false (has_driver u s) in
     record {
       given = driver.given_in_event u s e o ++ rest.given;
       is = ap (λ b. driver.in_front b (driver.given_in_event u s e o) (driver.taken_in_event u s e)
@@ -368,7 +359,7 @@ a_driver_is_served_by_its_socket {S} {R} told holds executed_all sent_all =
               took = is_given u m.since s t m.events m.outcomes
                   (m.moves (took_in (is_driver u)) (took_of u) (took_fits u)) stays
                   (sent_all s t m.events m.outcomes u sound
-                  (there_is u s (is_there u s m.events m.outcomes stays)) m.run);
+                  (there_is u s (first_stays u s m.events m.outcomes stays)) m.run);
             };
           },
         )

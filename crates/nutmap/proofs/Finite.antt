@@ -12,7 +12,7 @@ use Rattle.std.proofs.lemmas.Map.Keys.{IsDistinct-from_sorted}
 use Rattle.nutmap.specs.Entries.{value_at, HasRisingKeys}
 use Rattle.nutmap.proofs.Ordered.{less_from_greater}
 
-equal_when : (c : Ordering) → is_eq c ≡ true → c ≡ Equal
+pub equal_when : (c : Ordering) → is_eq c ≡ true → c ≡ Equal
 equal_when Less h = absurd (cc)
 equal_when Equal h = refl
 equal_when Greater h = absurd (cc)

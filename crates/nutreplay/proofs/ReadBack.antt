@@ -56,6 +56,8 @@ use Rattle.nutreplay.specs.Script.{actions_of, first_bad_line}
 use Rattle.nutreplay.specs.Written.{name_at, verb_of_bytes, age_line, comment_line, head_of}
 use Rattle.nutreplay.specs.Written.{is_one_line, line_of, Has, IsEventOf, IsReadAs, AHeadIsRead}
 use Rattle.nutreplay.specs.Written.{WhatIsWrittenIsReadBack}
+use Rattle.nutwords.proofs.TextLemmas.{all_also}
+use Rattle.nutwords.proofs.Digits.{natural_of}
 
 -- The bytes of a line without LF, and those of a word of it.
 abbrev in_line : ℕ → Bool
@@ -74,13 +76,6 @@ not_true : (b : Bool) → not b ≡ true → b ≡ false
 not_true true h = cc h
 not_true false h = refl
 
-all_more : (p q : ℕ → Bool) → ((b : ℕ) → p b ≡ true → q b ≡ true) →
-    (xs : List ℕ) → list_all p xs ≡ true → list_all q xs ≡ true
-all_more p q f [] h = refl
-all_more p q f (b ∷ xs) h =
-    let hs = and_parts (p b) (list_all p xs) h in
-    and_from (q b) (list_all q xs) (f b hs.0) (all_more p q f xs hs.1)
-
 parts_joined : (xs ys : List ℕ) → IsPart xs → IsPart ys → IsPart (xs ++ ys)
 parts_joined [] ys h k = k
 parts_joined (b ∷ xs) ys h k =
@@ -88,7 +83,7 @@ parts_joined (b ∷ xs) ys h k =
     and_from (in_line b) (list_all in_line (xs ++ ys)) hs.0 (parts_joined xs ys hs.1 k)
 
 word_is_part : (xs : List ℕ) → IsWord xs → IsPart xs
-word_is_part xs h = all_more in_word in_line (λ b k. (and_parts (in_line b) (not (b == 32)) k).0) xs h
+word_is_part xs h = all_also in_word in_line (λ b k. (and_parts (in_line b) (not (b == 32)) k).0) xs h
 
 -- The first line, and the first word.
 first_line : (line more : List ℕ) → IsPart line → lines_of (line ++ 10 ∷ more) ≡ line ∷ lines_of more
@@ -122,10 +117,6 @@ digits_all (d ∷ ds) all =
     let here = digit_from_value d all.0 in
     and_from (is_digit d) (list_all is_digit ds) (grind (arith, nat_tests)) (digits_all ds all.1)
 
-natural_of : (ds : List ℕ) → list_all is_digit ds ≡ true → 48 < get_or ds 0 0 → is_natural ds ≡ true
-natural_of [] all first = absurd (omega (arith, first))
-natural_of (d ∷ ds) all first = and_from (list_all is_digit (d ∷ ds)) _ all (grind (arith, nat_tests))
-
 decimal_digits : (n : ℕ) → n < 2 ^ 64 → list_all is_digit (decimal n) ≡ true
 decimal_digits n few = digits_all (decimal n) (decimal_is_IsNumeral n few).0.1
 
@@ -133,7 +124,7 @@ is_word_of_digit : (b : ℕ) → is_digit b ≡ true → in_word b ≡ true
 is_word_of_digit b h = grind (arith, nat_tests)
 
 decimal_word : (n : ℕ) → n < 2 ^ 64 → IsWord (decimal n)
-decimal_word n few = all_more is_digit in_word is_word_of_digit (decimal n) (decimal_digits n few)
+decimal_word n few = all_also is_digit in_word is_word_of_digit (decimal n) (decimal_digits n few)
 
 natural_read : (most n : ℕ) → n < 2 ^ 64 → leb n most ≡ true → read_natural most (decimal n) ≡ Some n
 natural_read most n few within =
@@ -222,7 +213,7 @@ named list l u has = by (slice_get list u.place) refl has
         (place_at list u.place x l.by_name at) ∙
         ap (λ b. cond b (Some u.place) None) (lt-ltb u.place (length list) within) in
         record {
-          word = subst IsWord (sym is) (all_more is_name_byte in_word is_word_of_name x.name read.all);
+          word = subst IsWord (sym is) (all_also is_name_byte in_word is_word_of_name x.name read.all);
           found = ap (ups list) is ∙ ap (λ r. option_map (ups_named list) (result_ok r)) read.is
               ∙ ap (λ o. Some (option_map_or id_at o (id_at UNLISTED))) place;
         }
@@ -273,7 +264,7 @@ passes_all p (b ∷ xs) h = and_from (p b) (list_all p xs) (All-head (λ x. p x 
 
 digits_part : (bytes : List ℕ) → IsBytes bytes → IsPart (encode_lower bytes)
 digits_part bytes h =
-    all_more is_hex_digit in_line is_line_of_digit (encode_lower bytes)
+    all_also is_hex_digit in_line is_line_of_digit (encode_lower bytes)
     (passes_all is_hex_digit (encode_lower bytes)
     (decode_of-ok (encode_lower bytes) bytes (decode_of-encode_lower bytes h)).1)
 
@@ -389,7 +380,7 @@ module _ (list : List Ups) (l : IsList list) where
   one_line_of (happening.Open a) lawful =
       let read = read_is is_address_byte false ADDRESS_LIMIT a lawful in
       one_line list (happening.Open a) (codes "open") a refl
-      (word_is_part a (all_more is_address_byte in_word is_word_of_address a read.all)) refl refl
+      (word_is_part a (all_also is_address_byte in_word is_word_of_address a read.all)) refl refl
       (ap (λ r. happens (option_map (λ b. happening.Open b) (result_ok r))) read.is)
   one_line_of (happening.Feed c bytes) h = of_client c bytes h.0 h.1
   one_line_of (happening.Took c n) h =
@@ -402,7 +393,7 @@ module _ (list : List Ups) (l : IsList list) where
       (ap (λ o. happens (option_map (λ d. happening.Close d) o)) (number_read c few))
   one_line_of (happening.Id id) few =
       one_line list (happening.Id id) (codes "id") (id_text id) refl
-      (word_is_part (id_text id) (all_more is_id_byte in_word is_word_of_id (id_text id)
+      (word_is_part (id_text id) (all_also is_id_byte in_word is_word_of_id (id_text id)
       (ids_are_plain.digits id))) refl refl
       (ap (λ o. happens (option_map (λ n. happening.Id n) o)) (written_is_read id few))
 

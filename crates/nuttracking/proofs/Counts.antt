@@ -9,6 +9,7 @@ use Rattle.std.specs.List.{list_any}
 use Rattle.nuttracking.specs.Sound.{times}
 use Rattle.nuttracking.specs.Tracking.{has_id}
 use Rattle.nuttracking.specs.declared.order.TrackedOrder.{TrackedOrder}
+use Rattle.std.proofs.lemmas.Bool.{cases_Bool}
 
 abbrev pub one_if : ℕ → ℕ → ℕ
 one_if id other = cond (other == id) 1 0
@@ -28,14 +29,10 @@ times_push id other ids = omega (arith, times_append id ids (other ∷ []), time
 pub one_if_same : (id : ℕ) → one_if id id ≡ 1
 one_if_same id = grind (arith, nat_tests)
 
-either : (b : Bool) → (b ≡ true) ⊎ (b ≡ false)
-either true = inl refl
-either false = inr refl
-
 -- an id that isn't found stands there never
 pub not_at_hand : (id : ℕ) (ids : List ℕ) → list_any (λ other. other == id) ids ≡ false → times id ids ≡ 0
 not_at_hand id [] e = refl
-not_at_hand id (x ∷ ids) e = elim (either (x == id)) [
+not_at_hand id (x ∷ ids) e = elim (cases_Bool (x == id)) [
   | inl is ↦ absurd (true≢false (rw is at e))
   | inr other ↦ times_cons id x ids ∙ rw (other, not_at_hand id ids (rw other at e)) refl
 ]
@@ -43,7 +40,7 @@ not_at_hand id (x ∷ ids) e = elim (either (x == id)) [
 pub not_kept : (id : ℕ) (orders : List TrackedOrder) → list_any (has_id id) orders ≡ false →
     times id (order_ids orders) ≡ 0
 not_kept id [] e = refl
-not_kept id (x ∷ orders) e = elim (either (x.id == id)) [
+not_kept id (x ∷ orders) e = elim (cases_Bool (x.id == id)) [
   | inl is ↦ absurd (true≢false (rw is at e))
   | inr other ↦ times_cons id x.id (order_ids orders) ∙ rw (other, not_kept id orders (rw other at e)) refl
 ]

@@ -5,7 +5,7 @@ use Rattle.std.proofs.Common.{◌++◌, length, map, drop, get_or, set, Bool, tr
 use Rattle.std.proofs.Common.{true≢false, not, inl, inr, nat_lt, slice_get, Option, Some, None}
 use Rattle.std.proofs.Common.{is_some, unwrap_or, arith, refl, sym, ap, ◌∙◌, length-append}
 use Rattle.std.proofs.Common.{length-drop}
-use Rattle.std.proofs.lemmas.Bool.{eqb-true}
+use Rattle.std.proofs.lemmas.Bool.{eqb-true, or_parts, cases_Bool}
 use Rattle.std.proofs.lemmas.Bool.Decides.{nat_tests}
 use Rattle.std.proofs.lemmas.List.{length-map, map_push}
 use Rattle.std.proofs.lemmas.List.Elements.{All-nil, All-cons, All-drop, All-append, All-map}
@@ -19,15 +19,6 @@ use Rattle.nuttracking.specs.declared.limits.TheConstants.{ID_LIMIT, ORDER_LIMIT
 use Rattle.nuttracking.specs.declared.order.Progress.TheVariants.{Done}
 use Rattle.nuttracking.specs.declared.order.TrackedOrder.{TrackedOrder}
 
-pub either : (b : Bool) → (b ≡ true) ⊎ (b ≡ false)
-either true = inl refl
-either false = inr refl
-
-neither : (a b : Bool) → (a || b) ≡ false → (a ≡ false) × (b ≡ false)
-neither false false e = (refl, refl)
-neither true b e = absurd (true≢false e)
-neither false true e = absurd (true≢false e)
-
 -- ---- an id more
 
 one_more : (id j : ℕ) (xs ys : List ℕ) → times id xs ≡ 0 → times id ys ≡ 0 →
@@ -36,7 +27,7 @@ one_more id j xs ys here kept once =
     let before = times_append j xs ys in
     let after = times_append j (xs ++ id ∷ []) ys in
     let more = times_push j id xs in
-    elim (either (id == j)) [
+    elim (cases_Bool (id == j)) [
       | inl same ↦
           let is : id ≡ j = eqb-true id j same in
           let no_x : times j xs ≡ 0 = rw (← is) here in
@@ -62,7 +53,7 @@ pub sound_with_id : (t : TrackingState) (id : ℕ) → IsSoundTracking t → is_
     false → length t.ids < ID_LIMIT → id < 2 ^ 128
     → IsSoundTracking (record { ids = t.ids ++ id ∷ []; orders = t.orders })
 sound_with_id t id s unknown room small =
-    let parts = neither (list_any (λ (other : ℕ). other == id) t.ids) (list_any (has_id id) t.orders) unknown in
+    let parts = or_parts (list_any (λ (other : ℕ). other == id) t.ids) (list_any (has_id id) t.orders) unknown in
     record {
       ids_few = omega (arith, length-append t.ids (id ∷ []));
       orders_few = s.orders_few;
@@ -120,7 +111,7 @@ sound_with_order place id rest orders s =
 -- ---- a report
 
 settled_id : (place id number : ℕ) (order : TrackedOrder) → (settled place id number order).id ≡ order.id
-settled_id place id number order = elim (either (awaits place id order)) [
+settled_id place id number order = elim (cases_Bool (awaits place id order)) [
   | inl is ↦ rw is refl
   | inr not ↦ rw not refl
 ]
@@ -134,7 +125,7 @@ ids_settled place id number (x ∷ orders) =
 
 settled_lawful : (place id number : ℕ) (order : TrackedOrder) → number ≤ DONE_LIMIT →
     IsLawfulProgress order.progress → IsLawfulProgress (settled place id number order).progress
-settled_lawful place id number order h p = elim (either (awaits place id order)) [
+settled_lawful place id number order h p = elim (cases_Bool (awaits place id order)) [
   | inl is ↦ rw is h
   | inr not ↦ rw not p
 ]
@@ -163,18 +154,18 @@ pub nothing_settled : (place id number : ℕ) (orders : List TrackedOrder) →
     list_any (awaits place id) orders ≡ false → map (settled place id number) orders ≡ orders
 nothing_settled place id number [] e = refl
 nothing_settled place id number (x ∷ orders) e =
-    let parts = neither (awaits place id x) (list_any (awaits place id) orders) e in
+    let parts = or_parts (awaits place id x) (list_any (awaits place id) orders) e in
     ap (λ (y : TrackedOrder). y ∷ map (settled place id number) orders) (unless_awaited place id number x parts.0)
     ∙ ap (λ (l : List TrackedOrder). x ∷ l) (nothing_settled place id number orders parts.1)
 
 has_the_id : (place id : ℕ) (order : TrackedOrder) → awaits place id order ≡ true → order.id ≡ id
-has_the_id place id order e = elim (either (order.id == id)) [
+has_the_id place id order e = elim (cases_Bool (order.id == id)) [
   | inl is ↦ eqb-true order.id id is
   | inr not ↦ absurd (true≢false (sym (rw not at e)))
 ]
 
 has_not : (place id : ℕ) (order : TrackedOrder) → one_if id order.id ≡ 0 → awaits place id order ≡ false
-has_not place id order e = elim (either (order.id == id)) [
+has_not place id order e = elim (cases_Bool (order.id == id)) [
   | inl is ↦ absurd (omega (arith, rw is at e))
   | inr not ↦ rw not refl
 ]
@@ -219,7 +210,7 @@ one_settled place id number (x ∷ orders) (suc at) d h e once =
 none_found : {X : Type 0} (p : X → Bool) (xs : List X) → length xs ≤
     prefix_len (λ x. not (p x)) xs → list_any p xs ≡ false
 none_found p [] h = refl
-none_found p (x ∷ xs) h = elim (either (p x)) [
+none_found p (x ∷ xs) h = elim (cases_Bool (p x)) [
   | inl is ↦ absurd (omega (arith, rw is at h))
   | inr other ↦ rw other (none_found p xs (omega (arith, rw other at h)))
 ]
@@ -228,7 +219,7 @@ pub not_below : (a b : ℕ) → nat_lt a b ≡ false → b ≤ a
 not_below a b e = grind (arith, nat_tests)
 
 pub no_position : {X : Type 0} (p : X → Bool) (xs : List X) → position p xs ≡ None → list_any p xs ≡ false
-no_position p xs e = elim (either (nat_lt (position_or_len p xs) (length xs))) [
+no_position p xs e = elim (cases_Bool (nat_lt (position_or_len p xs) (length xs))) [
   | inl below ↦ absurd (true≢false (ap is_some (rw below at e)))
   | inr past ↦ none_found p xs (not_below (position_or_len p xs) (length xs) past)
 ]

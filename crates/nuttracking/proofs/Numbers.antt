@@ -13,11 +13,7 @@ use Rattle.std.specs.Str.{str_to_ascii_lowercase}
 use Rattle.std.specs.Str.Parse.{digits_value, digits_value_after}
 use Rattle.nuttracking.specs.Id.{hyphen, groups, last_digits, id_text, digits_number}
 use Rattle.nuttracking.proofs.Digits.{digits_back, digits_small}
-
-both : (a b : Bool) → (a && b) ≡ true → (a ≡ true) × (b ≡ true)
-both true true e = (refl, refl)
-both true false e = absurd (true≢false (sym e))
-both false b e = absurd (true≢false (sym e))
+use Rattle.std.proofs.lemmas.Bool.{and_parts}
 
 -- ---- in lower case
 
@@ -60,12 +56,12 @@ digits_pass (suc k) n =
 all_stay : (p : ℕ → Bool) (xs : List ℕ) → list_all p xs ≡ true → filter p xs ≡ xs
 all_stay p [] all = refl
 all_stay p (x ∷ xs) all =
-    let parts = both (p x) (list_all p xs) all in
+    let parts = and_parts (p x) (list_all p xs) all in
     rw parts.0 (ap (λ (l : List ℕ). x ∷ l) (all_stay p xs parts.1))
 
 halves_pass : (p : ℕ → Bool) (n : ℕ) (xs : List ℕ) → list_all p xs ≡ true →
     (list_all p (take n xs) ≡ true) × (list_all p (drop n xs) ≡ true)
-halves_pass p n xs all = both (list_all p (take n xs)) (list_all p (drop n xs))
+halves_pass p n xs all = and_parts (list_all p (take n xs)) (list_all p (drop n xs))
     (sym (list_all-append p (take n xs) (drop n xs)) ∙ ap (list_all p) (take-append-drop n xs) ∙ all)
 
 -- a group, a hyphen, and what is left of the digits after them

@@ -29,7 +29,7 @@ use Rattle.nuttracking.proofs.ActSteps.{orders_handed_in, settles}
 use Rattle.nuttracking.proofs.KeptSound.{either, not_below, lawful_with_order, lawful_settled}
 
 -- ids_are_read_back
-is_read : (text : List ℕ) (n : ℕ) (b : Bool) →
+pub is_read : (text : List ℕ) (n : ℕ) (b : Bool) →
     (if b then Some (digits_number text) else None) ≡ Some n → (b ≡ true) × (digits_number text ≡ n)
 is_read text n true e = (refl, ap (λ (o : Option ℕ). unwrap_or o 0) e)
 is_read text n false e = absurd (true≢false (sym (ap is_some e)))

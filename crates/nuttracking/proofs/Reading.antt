@@ -4,7 +4,7 @@ use Rattle.std.proofs.Common.{◌==◌, ◌&&◌, ◌⊎◌, List, [], ◌∷◌
 use Rattle.std.proofs.Common.{slice_index, get_or, Bool, true, false, true≢false}
 use Rattle.std.proofs.Common.{if◌then◌else◌, Option, Some, None, unwrap_or, is_some, inl, inr}
 use Rattle.std.proofs.Common.{arith, refl, sym, ap, ◌∙◌}
-use Rattle.std.proofs.lemmas.Bool.{cases_lt, eqb-true}
+use Rattle.std.proofs.lemmas.Bool.{cases_lt, eqb-true, and_parts, cases_Bool}
 use Rattle.std.proofs.lemmas.Bool.Decides.{nat_tests}
 use Rattle.std.proofs.lemmas.List.{get_or-map, length-map}
 use Rattle.std.specs.Char.{to_ascii_lowercase}
@@ -23,11 +23,6 @@ given : {X : Type 0} (b : Bool) (x v : X) → (if b then Some x else None) ≡ S
 given {X} true x v e = (refl, ap (λ (o : Option X). unwrap_or o x) e)
 given {X} false x v e = absurd (true≢false (sym (ap is_some e)))
 
-both : (a b : Bool) → (a && b) ≡ true → (a ≡ true) × (b ≡ true)
-both true true e = (refl, refl)
-both true false e = absurd (true≢false (sym e))
-both false b e = absurd (true≢false (sym e))
-
 -- what is parsed of a text of the hyphenated form
 record IsParsed (s u : List ℕ) : Type 0 where
   pub long : length s ≡ 36
@@ -38,8 +33,8 @@ record IsParsed (s u : List ℕ) : Type 0 where
 all_at : (p : ℕ → Bool) (xs : List ℕ) (k : ℕ) → list_all p xs ≡ true → k <
     length xs → p (get_or xs k 0) ≡ true
 all_at p [] k all here = absurd (omega arith)
-all_at p (x ∷ xs) zero all here = (both (p x) (list_all p xs) all).0
-all_at p (x ∷ xs) (suc k) all here = all_at p xs k (both (p x) (list_all p xs) all).1 (omega arith)
+all_at p (x ∷ xs) zero all here = (and_parts (p x) (list_all p xs) all).0
+all_at p (x ∷ xs) (suc k) all here = all_at p xs k (and_parts (p x) (list_all p xs) all).1 (omega arith)
 
 all_from : (p : ℕ → Bool) (xs : List ℕ) →
     ((k : ℕ) → k < length xs → p (get_or xs k 0) ≡ true) → list_all p xs ≡ true
@@ -57,10 +52,10 @@ chosen false x v e = absurd (true≢false (sym (ap is_some e)))
 is_parsed : (s u : List ℕ) → parsed_hyphenated s ≡ Some u → IsParsed s u
 is_parsed s u e =
     let form = chosen ((length s == 36) && has_hyphens s) (parsed_simple (digits_of s)) u e in
-    let shape = both (length s == 36) (has_hyphens s) form.0 in
+    let shape = and_parts (length s == 36) (has_hyphens s) form.0 in
     let read = given ((length (digits_of s) == 32) && list_all is_hex_digit (digits_of s))
     (by_index 16 (byte_of_digits (digits_of s))) u form.1 in
-    let all = (both (length (digits_of s) == 32) (list_all is_hex_digit (digits_of s)) read.0).1 in
+    let all = (and_parts (length (digits_of s) == 32) (list_all is_hex_digit (digits_of s)) read.0).1 in
     let many : length (digits_of s) ≡ 32 = by_index_length 32 (λ i. slice_index s (hyphen_place i)) in
     record {
       long = eqb-true (length s) 36 shape.0;
@@ -101,10 +96,6 @@ hyphens_are s e = (
   grind (arith, nat_tests),
 )
 
-either : (b : Bool) → (b ≡ true) ⊎ (b ≡ false)
-either true = inl refl
-either false = inr refl
-
 -- each half of a byte is what its digit says
 half_of_byte : (s : List ℕ) → ((i : ℕ) → i < 32 → is_hex_digit (slice_index s (hyphen_place i)) ≡ true)
     → (j : ℕ) → j < 32 → nibble (by_index 16 (byte_of_digits (digits_of s))) j ≡
@@ -140,7 +131,7 @@ text_at u k = if is_hyphen_place k then 45 else hex_digit lower (nibble u (digit
 place_lowered : (s u : List ℕ) → IsParsed s u → (k : ℕ) → k < 36 →
     to_ascii_lowercase (slice_index s k) ≡ text_at u k
 place_lowered s u p k within =
-    elim (either (is_hyphen_place k)) [
+    elim (cases_Bool (is_hyphen_place k)) [
       | inl hyphen ↦
           let at = hyphens_are s p.hyphens in
           let byte : slice_index s k ≡ 45 = elim (hyphen_places k hyphen) [
@@ -241,7 +232,7 @@ digit_stays : (d : ℕ) → d < 16 → to_ascii_lowercase (hex_digit lower d) �
 digit_stays d small = grind (arith, nat_tests)
 
 place_stays : (u : List ℕ) (k : ℕ) → to_ascii_lowercase (text_at u k) ≡ text_at u k
-place_stays u k = elim (either (is_hyphen_place k)) [
+place_stays u k = elim (cases_Bool (is_hyphen_place k)) [
   | inl hyphen ↦ rw hyphen refl
   | inr digit ↦ rw digit (digit_stays (nibble u (digit_place k)) (nibble_small u (digit_place k)))
 ]
@@ -265,7 +256,7 @@ digit_plain : (d : ℕ) → d < 16 → is_id_byte (hex_digit lower d) ≡ true
 digit_plain d small = grind (arith, nat_tests)
 
 place_plain : (u : List ℕ) (k : ℕ) → is_id_byte (text_at u k) ≡ true
-place_plain u k = elim (either (is_hyphen_place k)) [
+place_plain u k = elim (cases_Bool (is_hyphen_place k)) [
   | inl hyphen ↦ rw hyphen refl
   | inr digit ↦ rw digit (digit_plain (nibble u (digit_place k)) (nibble_small u (digit_place k)))
 ]

@@ -10,7 +10,7 @@ use Rattle.std.specs.List.Sorted.{IsPermutation, IsSorted, IsSortedBy, IsStrictl
 use Rattle.std.specs.List.Sorted.{IsBinarySearchResult}
 use Rattle.std.specs.Ordering.{eq_by_cmp, is_eq, is_lt, ordering_reverse}
 use Rattle.std.specs.declared.cmp.Ordering.TheVariants.{Equal}
-use Rattle.std.proofs.lemmas.Bool.{cases_Bool, cases_lt}
+use Rattle.std.proofs.lemmas.Bool.{cases_Bool, cases_lt, or_parts}
 use Rattle.std.proofs.lemmas.List.Folds.{find_at}
 use Rattle.std.proofs.lemmas.List.Sums.{position_or_len_is}
 use Rattle.std.proofs.lemmas.Option.{slice_get-get_or, slice_get_past}
@@ -38,10 +38,6 @@ is_some-found p (x ∷ xs) = elim (p x) as
     (λ b. is_some (cond b (Some x) (find p xs)) ≡ (b || list_any p xs))
     [ true ↦ refl | false ↦ is_some-found p xs ]
 
-or-false : (a b : Bool) → (a || b) ≡ false → (a ≡ false) × (b ≡ false)
-or-false true b h = absurd (cc h)
-or-false false b h = (refl, h)
-
 -- a section line that is accepted has a name that none has
 pub not_there : (lawful there : Bool) (fault : Option Cause) →
     cond (not lawful) (Some BadName) (cond there (Some Duplicate) fault) ≡ None → there ≡ false
@@ -68,7 +64,7 @@ found_is p (y ∷ ys) x h = elim (cases_Bool (p y)) [
 -- what isn't any isn't found
 none_found : {X : Type 0} (p : X → Bool) (xs : List X) → list_any p xs ≡ false → find p xs ≡ None
 none_found p [] h = refl
-none_found p (x ∷ xs) h = let parts = or-false (p x) (list_any p xs) h in rw parts.0 (none_found p xs parts.1)
+none_found p (x ∷ xs) h = let parts = or_parts (p x) (list_any p xs) h in rw parts.0 (none_found p xs parts.1)
 
 module _ {A : Type 0} (name_of : A → List ℕ) where
   -- their order is that of the names
@@ -94,7 +90,7 @@ module _ {A : Type 0} (name_of : A → List ℕ) where
       name → AllByRecursion (λ y. same_name x y ≡ false) all
   apart_from name [] h x is = tt
   apart_from name (y ∷ all) h x is =
-      let parts = or-false (bytes_eq (name_of y) name) (list_any (λ y. bytes_eq (name_of y) name) all) h in (
+      let parts = or_parts (bytes_eq (name_of y) name) (list_any (λ y. bytes_eq (name_of y) name) all) h in (
         flips x y ∙ is_eq-slice_cmp (name_of y) (name_of x) ∙ ap (bytes_eq (name_of y)) is ∙
             parts.0,
         apart_from name all parts.1 x is,

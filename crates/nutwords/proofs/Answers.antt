@@ -13,7 +13,7 @@ use Rattle.nutwords.proofs.Pieces.{parts}
 use Rattle.nutwords.proofs.Splits.{line-cut}
 
 -- two first lines of a text are the same, and so is what follows them
-one_line_first : (l m x y : List ℕ) → has_lf l ≡ false → has_lf m ≡ false → with_lf l ++
+pub one_line_first : (l m x y : List ℕ) → has_lf l ≡ false → has_lf m ≡ false → with_lf l ++
     x ≡ with_lf m ++ y → (l ≡ m) × (x ≡ y)
 one_line_first l m x y h k e =
     let mine = line-cut (with_lf l ++ x) l x (append_assoc l (10 ∷ []) x) h in

@@ -11,6 +11,7 @@ use Rattle.std.proofs.lemmas.List.Folds.{list_all_at}
 use Rattle.std.specs.Char.{digit_value}
 use Rattle.std.specs.Str.Parse.{digits_value, digits_value_after}
 use Rattle.nutwords.specs.Natural.{is_digit, is_natural, has_no_leading_zero, up_to}
+use Rattle.std.proofs.lemmas.Bool.{and_parts}
 
 -- more digits make no smaller number
 digits_value_after-least : (n : ℕ) (ds : List ℕ) → n ≤ digits_value_after 10 n ds
@@ -23,12 +24,8 @@ digits_value_after-least n (d ∷ ds) =
 digit_value-digit : (d : ℕ) → is_digit d ≡ true → digit_value d ≡ d - 48
 digit_value-digit d h = grind (arith, nat_tests, common_steps, h)
 
-both_hold : (a b : Bool) → (a && b) ≡ true → (a ≡ true) × (b ≡ true)
-both_hold true b h = (refl, h)
-both_hold false b h = absurd (cc)
-
 pub all_digits : (ds : List ℕ) → is_natural ds ≡ true → list_all is_digit ds ≡ true
-all_digits ds h = (both_hold (list_all is_digit ds) (has_no_leading_zero ds) h).0
+all_digits ds h = (and_parts (list_all is_digit ds) (has_no_leading_zero ds) h).0
 
 pub digit_at : (ds : List ℕ) (i : ℕ) → list_all is_digit ds ≡ true → i < length ds →
     is_digit (get_or ds i 0) ≡ true
@@ -71,3 +68,7 @@ with_next most v next ds i all within n e =
 pub no_natural : (most n : ℕ) (is : Bool) → None ≡ up_to most n → None ≡ (if is then up_to most n else None)
 no_natural most n true e = e
 no_natural most n false e = refl
+
+pub natural_of : (ds : List ℕ) → list_all is_digit ds ≡ true → 48 < get_or ds 0 0 → is_natural ds ≡ true
+natural_of [] all first = absurd (omega (arith, first))
+natural_of (d ∷ ds) all first = and_from (list_all is_digit (d ∷ ds)) _ all (grind (arith, nat_tests))

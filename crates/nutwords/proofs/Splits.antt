@@ -11,10 +11,7 @@ use Rattle.nutwords.specs.Found.{FindsLine}
 use Rattle.nutwords.specs.declared.cut.Cut.TheVariants.{Line}
 use Rattle.nutwords.proofs.Lines.{with_byte, split_line-other, split_line-append, none-of_map}
 use Rattle.nutwords.proofs.Pieces.{some_none, parts, with_byte-some, at_lf, split_line-behind}
-
-neither : (x y : Bool) → (x || y) ≡ false → (x ≡ false) × (y ≡ false)
-neither true y h = cc
-neither false y h = (refl, h)
+use Rattle.std.proofs.lemmas.Bool.{or_parts}
 
 both : (x y : Bool) → x ≡ false → y ≡ false → (x || y) ≡ false
 both true y h k = cc
@@ -23,7 +20,7 @@ both false y h k = k
 -- no LF, no line
 pub no_lf-none : (text : List ℕ) → has_lf text ≡ false → split_line text ≡ None
 no_lf-none [] h = refl
-no_lf-none (x ∷ text) h = let p = neither (eqb x 10) (has_lf text) h in
+no_lf-none (x ∷ text) h = let p = or_parts (eqb x 10) (has_lf text) h in
     split_line-other x text p.0 ∙ ap (with_byte x) (no_lf-none text p.1)
 
 pub none-no_lf : (text : List ℕ) → split_line text ≡ None → has_lf text ≡ false
