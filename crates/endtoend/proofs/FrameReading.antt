@@ -145,5 +145,6 @@ value_read ups name value texts more h =
     let words : List (List ℕ) = codes "VAR" ∷ ups ∷ name ∷ value ∷ [] in
     let r = written_line texts words h in
     ap (reply_from (GetVar ups name)) (line_before texts words more r)
-    ∙ ap (λ ws. after_first (GetVar ups name) (first_of (GetVar ups name) ws) more) (words_of-reads r.line words r.reads)
+    ∙ ap (λ ws. after_first (GetVar ups name) (first_of (GetVar ups name) ws) more)
+    (words_of-reads r.line words r.reads)
     ∙ (rw (behind-same (codes "VAR" ∷ ups ∷ name ∷ []) (value ∷ [])) refl)

@@ -132,8 +132,7 @@ variables_known query fsd (entry ∷ entries) named valued lawful =
     All-cons (IsItem query) (variable_of fsd entry) (map (variable_of fsd) entries)
     (record {
       name = named entry.0 (All-head IsLawfulEntry entry entries lawful).0;
-      value =
-          λ none. let bad : true ≡ false = sym valued ∙ none in cc;
+      value = λ none. let bad : true ≡ false = sym valued ∙ none in cc;
     })
     (variables_known query fsd entries named valued (All-tail IsLawfulEntry entry entries lawful))
 
@@ -278,8 +277,7 @@ prints_commands listed = λ s client ups line known more n u e.
     let all = All-weaker (λ name. IsTrue (is_name name)) (IsNamed query)
     (λ name h. record {
       written = name_written name h;
-      short =
-          text_short is_name_byte false NAME_LIMIT name h;
+      short = text_short is_name_byte false NAME_LIMIT name h;
       named = h;
     }) commands u.sound.commands in
     let read = list_cmd_read ups n line e in
@@ -306,8 +304,7 @@ prints_clients counted = λ s client ups line known more few lawful n named e.
     let all = All-weaker HasLawfulAddress (λ x. IsNamed query x.address)
     (λ x h. record {
       written = address_written x.address h;
-      short =
-          text_short is_address_byte false ADDRESS_LIMIT x.address h;
+      short = text_short is_address_byte false ADDRESS_LIMIT x.address h;
       named = h;
     }) clients (All-filter (is_logged_in_of known.id) HasLawfulAddress s.sessions lawful) in
     let read = list_client_read ups n line e in

@@ -38,22 +38,19 @@ spelled errors.VarNotSupported = record {
   some = omega arith;
   bare = refl;
   short = omega arith;
-  refusal =
-      λ request more. refl;
+  refusal = λ request more. refl;
 }
 spelled errors.CmdNotSupported = record {
   some = omega arith;
   bare = refl;
   short = omega arith;
-  refusal =
-      λ request more. refl;
+  refusal = λ request more. refl;
 }
 spelled errors.InvalidArgument = record {
   some = omega arith;
   bare = refl;
   short = omega arith;
-  refusal =
-      λ request more. refl;
+  refusal = λ request more. refl;
 }
 spelled errors.InstcmdFailed = record
     { some = omega arith; bare = refl; short = omega arith; refusal = λ request more. refl }
@@ -63,15 +60,13 @@ spelled errors.Readonly = record {
   some = omega arith;
   bare = refl;
   short = omega arith;
-  refusal =
-      λ request more. refl;
+  refusal = λ request more. refl;
 }
 spelled errors.TooLong = record {
   some = omega arith;
   bare = refl;
   short = omega arith;
-  refusal =
-      λ request more. refl;
+  refusal = λ request more. refl;
 }
 spelled errors.FeatureNotConfigured = record
     { some = omega arith; bare = refl; short = omega arith; refusal = λ request more. refl }
@@ -83,8 +78,7 @@ spelled errors.AlreadyLoggedIn = record {
   some = omega arith;
   bare = refl;
   short = omega arith;
-  refusal =
-      λ request more. refl;
+  refusal = λ request more. refl;
 }
 spelled errors.AlreadySetPassword = record
     { some = omega arith; bare = refl; short = omega arith; refusal = λ request more. refl }
@@ -98,8 +92,7 @@ spelled errors.UnknownCommand = record {
   some = omega arith;
   bare = refl;
   short = omega arith;
-  refusal =
-      λ request more. refl;
+  refusal = λ request more. refl;
 }
 spelled errors.InvalidValue = record
     { some = omega arith; bare = refl; short = omega arith; refusal = λ request more. refl }

@@ -45,8 +45,7 @@ has_right s asker right e = by_given asker.username asker.password refl refl e
           password = p;
           username_given = f;
           password_given = g;
-          granted =
-              unless_ok (may s.users n p right) errors.AccessDenied h;
+          granted = unless_ok (may s.users n p right) errors.AccessDenied h;
         }
     by_given name password f g h = cc h
 

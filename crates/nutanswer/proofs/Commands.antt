@@ -150,8 +150,7 @@ module _ (s : Seen) (asker : AskerSeen) where
           is = refl;
           named = named;
           this = refl;
-          has =
-              has_right s asker rights.Login right;
+          has = has_right s asker rights.Login right;
           text = e;
         };
         fresh = none_given asker.login errors.AlreadyLoggedIn free;
@@ -170,8 +169,7 @@ module _ (s : Seen) (asker : AskerSeen) where
         is = refl;
         named = named;
         this = refl;
-        has =
-            has_right s asker rights.Fsd right;
+        has = has_right s asker rights.Fsd right;
         text = e;
       })))
   row (commands.SetVar ups None word) = held (user s asker rights.Set) (λ right. of_usable ups (λ u named. refused _))

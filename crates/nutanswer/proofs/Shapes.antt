@@ -269,8 +269,7 @@ module _ (s : Seen) (seen : IsLawfulSeen s) where
       record {
         ups = k;
         name = (texts_are_lawful.names v.0 lawful_name).lawful;
-        entry =
-            (lawful_name, sound_entries.found u.state.report.tree v.0 v.1 k.tree there.1);
+        entry = (lawful_name, sound_entries.found u.state.report.tree v.0 v.1 k.tree there.1);
       }
 
   few_logged_in : (u : KnownUps) → login_count u.id s.clients < 2 ^ 64

@@ -57,8 +57,7 @@ module _ {s : Seen} {asker : AskerSeen} {command : Command} where
   does words change ok its comes =
       record {
         comes = comes;
-        by_ok =
-            λ e. (let never : true ≡ false = sym ok ∙ e in cc never);
+        by_ok = λ e. (let never : true ≡ false = sym ok ∙ e in cc never);
         shape = λ seen h. its;
       }
 

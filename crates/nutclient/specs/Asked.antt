@@ -32,8 +32,7 @@ Obeys remaining failures contents write_failures printed print_failures reported
     status told
 Obeys {R} {W} remaining failures contents write_failures printed print_failures reported
     report_failures connects shows program (Some (target, requests, form)) out err status then
-    told =
-    (ends : Result (R × W) Error) × connects target ends
+    told = (ends : Result (R × W) Error) × connects target ends
     × MatchResult ends
     (λ ends. (rest : List ℕ) × (after : R) × (sent : W)
     × DoesJob remaining failures contents write_failures printed print_failures reported

@@ -53,8 +53,7 @@ list_kept list = kept_apart (λ s. s.list ≡ list) IsAny
     (record {
       puts = λ s c x y found same h. h;
       others = λ s moment upses tracking h. h;
-      opens =
-          λ s address room own h. h;
+      opens = λ s address room own h. h;
       closes = λ s c h. h;
     })
 

@@ -59,12 +59,10 @@ measures = record {
   };
   by_input = λ piece x u. record {
     owes = omega arith;
-    holds =
-        omega (arith, length-append x.held (accepted_bytes (Some x) piece));
+    holds = omega (arith, length-append x.held (accepted_bytes (Some x) piece));
   };
   by_output = λ n x u. record {
-    owes =
-        omega (arith, length-take n x.owed, length-drop n x.owed);
+    owes = omega (arith, length-take n x.owed, length-drop n x.owed);
     holds = omega arith;
   };
   opens = λ id address. record { owes = omega arith; holds = omega arith };

@@ -90,8 +90,7 @@ reported_is_executed old new [] [] u r stays =
       before = x.ups;
       after = x.ups;
       there_before = x.there;
-      there_after =
-          ap (ups_at u.place) r ∙ x.there;
+      there_after = ap (ups_at u.place) r ∙ x.there;
       is_heard = none;
     }
 reported_is_executed old new (e ∷ es) (o ∷ os) u (mid, step, r) stays =
@@ -217,8 +216,7 @@ begins_here u s e o es os now is done connects =
       events_before = [];
       outcomes_before = [];
       server = s;
-      events_since =
-          es;
+      events_since = es;
       outcomes_since = os;
       events_are = ap (λ (z : Event). z ∷ es) is;
       outcomes_are = ap (λ (z : Outcome). z ∷ os) done;
@@ -303,8 +301,7 @@ stands old new (e ∷ es) (o ∷ os) u x there (mid, step, r) =
     record {
       ups = rest.ups;
       there = rest.there;
-      is =
-          earlier u old new e o es os x rest.ups there rest.there (subst (Step old e o) step.leaves step) run rest.is;
+      is = earlier u old new e o es os x rest.ups there rest.there (subst (Step old e o) step.leaves step) run rest.is;
     }
 stands old new es os u x there r = absurd r
 

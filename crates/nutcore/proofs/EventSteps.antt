@@ -96,7 +96,8 @@ unfolding outcome_of after_by
 close_present s c x xs e exs = record { allowed = inl (rw e); leaves = rw exs }
 
 -- a client sends, and its lines are executed
-pub feed_event : {old v new : RunningServer} {w : TreeWaste} {c i : ℕ} {piece : List ℕ} {x y : SessionState} {n kept : ℕ}
+pub feed_event : {old v new : RunningServer} {w : TreeWaste} {c i : ℕ} {piece : List ℕ}
+    {x y : SessionState} {n kept : ℕ}
     (r : Result (Unit {0}) Fault) → v ≡ forgetful old.state w → IsSound v.state →
     StandsAt v.state c i x → y ≡ joined piece x
     → n ≡ accepted x piece
@@ -106,7 +107,8 @@ pub feed_event : {old v new : RunningServer} {w : TreeWaste} {c i : ℕ} {piece 
     → kept ≤ length (offered (session c new.state)) → new.cost ≡
     cost_beyond kept (offered (session c new.state)) →
     IsEvent old (Feed c piece) (fed_as n r) new
-feed_event {old} {v} {new} {w} {c} {i} {piece} {x} {y} {n} {kept} r begins sound here joins count left gives within cost =
+feed_event {old} {v} {new} {w} {c} {i} {piece} {x} {y} {n} {kept} r begins sound here joins count
+    left gives within cost =
     let j : ServerState = record v.state { sessions = set v.state.sessions i y } in
     let fed = with_input_is v.state c i piece x y here.at here.found joins in
     let before = left ∙ sym (ap (λ (o : Option SessionState). length (offered o)) here.found) in
@@ -127,7 +129,8 @@ may_take_true : (o : Option SessionState) (x : SessionState) (n k : ℕ) → o �
     → n ≤ k → may_take o n ≡ true
 may_take_true o x n k e ek le = grind arith
 
-pub take_event : {old v new : RunningServer} {w : TreeWaste} {c i n k : ℕ} {x y : SessionState} (r : Result (Unit {0}) Fault)
+pub take_event : {old v new : RunningServer} {w : TreeWaste} {c i n k : ℕ} {x y : SessionState}
+    (r : Result (Unit {0}) Fault)
     → v ≡ forgetful old.state w → IsSound v.state → StandsAt v.state c i x → y ≡ taken_from n x
     → k ≡ length (offered (Some x)) → n ≤ k
     → (let j : ServerState = record v.state { sessions = set v.state.sessions i y } in PumpGives j c r new.state ×

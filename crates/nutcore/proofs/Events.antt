@@ -82,8 +82,7 @@ silent e plain = record {
   plain = tt;
   executes = λ s m. refl;
   gives = λ c s m. refl;
-  takes =
-      λ c s. refl;
+  takes = λ c s. refl;
   asks = λ c s. refl;
   costs = λ old new. refl;
 }
@@ -106,8 +105,7 @@ of_session_event P other opens feed took closes (event.DriverBytes u piece) =
     let e : Event = event.DriverBytes u piece in
     other e (record {
       silent = silent e tt;
-      sessions =
-          λ s m. ap (λ (t : ServerState). t.sessions) (bytes_change u piece m s);
+      sessions = λ s m. ap (λ (t : ServerState). t.sessions) (bytes_change u piece m s);
       next_id = λ s m. ap (λ (t : ServerState). t.next_id) (bytes_change u piece m s);
     })
 of_session_event P other opens feed took closes (event.Open address) = opens address

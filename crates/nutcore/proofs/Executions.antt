@@ -64,8 +64,7 @@ run_timely old s t ds (e ∷ es) ps (o ∷ os) before (mid, step, r) =
       events_before = ds;
       event = e;
       events_after = es;
-      outcomes_before =
-          ps;
+      outcomes_before = ps;
       outcome = o;
       outcomes_after = os;
       server = s;

@@ -113,16 +113,14 @@ last_of report x [] = record {
   earlier = [];
   last = x;
   lines_are = refl;
-  at =
-      ap (λ (z : ℕ × Bool). z.0) (heard_line x.moment report x.line);
+  at = ap (λ (z : ℕ × Bool). z.0) (heard_line x.moment report x.line);
 }
 last_of report x (y ∷ ys) =
     let more = last_of (after_line x.moment report x.line).0 y ys in
     record {
       earlier = x ∷ more.earlier;
       last = more.last;
-      lines_are =
-          ap (λ (zs : List Heard). x ∷ zs) more.lines_are;
+      lines_are = ap (λ (zs : List Heard). x ∷ zs) more.lines_are;
       at = more.at;
     }
 

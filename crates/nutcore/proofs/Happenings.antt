@@ -182,6 +182,5 @@ answers_of_happenings s s' t t' es fs os ps r q same happened =
     ∙ run_leads t t' fs ps q c [] in
     record {
       answers = λ c. ap (λ (z : List ℕ × ServerState). z.0) (both c);
-      servers =
-          ap (λ (z : List ℕ × ServerState). z.1) (both 0);
+      servers = ap (λ (z : List ℕ × ServerState). z.1) (both 0);
     }

@@ -89,8 +89,7 @@ module _ (c : ℕ) (R : ServerState → List Execution → List ℕ → List ℕ
   pump_keeps d s m = until_keeps d (λ s xs t. R s xs [] [] t)
       (record {
         stays = h.stays;
-        joins =
-            λ s m t xs ys f g. h.joins s m t xs ys [] [] [] [] f g;
+        joins = λ s m t xs ys f g. h.joins s m t xs ys [] [] [] [] f g;
         by_line = h.by_line d;
         by_notice = h.by_notice d;
       }) s m

@@ -140,8 +140,7 @@ module _ (P : ServerState → Type 0) (Opens : List ℕ → Type 0) (apart : IsA
     };
     driver = λ s m. record {
       comes = λ u h. apart.others s s.moment _ s.tracking h;
-      tells =
-          λ place piece u h. apart.others s s.moment _ s.tracking h;
+      tells = λ place piece u h. apart.others s s.moment _ s.tracking h;
       takes = λ n u h. apart.others s s.moment _ s.tracking h;
       goes = λ u h. apart.others s s.moment _ s.tracking h;
     };
@@ -169,7 +168,6 @@ ids_kept n = kept_apart (λ s. n ≤ s.next_id) IsAny
     (record {
       puts = λ s c x y found same h. h;
       others = λ s moment upses tracking h. h;
-      opens =
-          λ s address room own h. omega (arith, h);
+      opens = λ s address room own h. omega (arith, h);
       closes = λ s c h. h;
     })

@@ -134,8 +134,7 @@ none_lasting : IsLasting (λ x. ⊥)
 none_lasting = record {
   line = λ s c line n so. so;
   joins = λ piece x so. so;
-  gives =
-      λ n x so. so;
+  gives = λ n x so. so;
   notice = λ x going so. so;
 }
 

@@ -73,8 +73,7 @@ pump_least s c =
       record {
         there = there;
         before = before;
-        pumped_is =
-            ap (λ (z : ServerState). after_notice z c) (all_lines_are k s c within there);
+        pumped_is = ap (λ (z : ServerState). after_notice z c) (all_lines_are k s c within there);
       },
     )
 

@@ -69,8 +69,7 @@ module _ {Holds : List Execution → ServerState → Type 0} (goes : GoesOn Hold
       ((before : List Execution) → Holds before s → Holds before t) → Leads s [] t
   leads_by_none s t holds = record {
     each = λ before h. tt;
-    then =
-        λ before h. subst (λ (zs : List Execution). Holds zs t) (sym (append-nil before)) (holds before h);
+    then = λ before h. subst (λ (zs : List Execution). Holds zs t) (sym (append-nil before)) (holds before h);
   }
 
   leads : IsOfEvents 0 (λ s xs taken asked t. Leads s xs t)

@@ -359,8 +359,7 @@ module _ (u : UpsId) where
     ticks = λ a was now x. rw (ticked_data a now x) (noted (data_state_of a was x) (data_state_of a now x));
     others = λ v other. record {
       state = λ state. rw other refl;
-      status =
-          λ status. refl;
+      status = λ status. refl;
       refused = λ fault shown. refl;
     };
     clients = record { into = λ v who. refl; out = λ v who. refl; did = λ deed. refl };
@@ -426,8 +425,7 @@ module _ (u : UpsId) where
         (no_status_data (data_state_of a was x) (data_state_of a now x))) (ticked_status a now x);
     others = λ v other. record {
       state = λ state. refl;
-      status =
-          λ status. rw other refl;
+      status = λ status. rw other refl;
       refused = λ fault shown. refl;
     };
     clients = record { into = λ v who. refl; out = λ v who. refl; did = λ deed. refl };
@@ -506,8 +504,7 @@ module _ (u : UpsId) where
   blind_fault v other = record {
     state = λ state. refl;
     status = λ status. refl;
-    refused =
-        λ fault shown. rw other refl;
+    refused = λ fault shown. rw other refl;
   }
 
   -- nor is a line refused where a driver connects or is lost, or where the clock goes on

@@ -89,7 +89,8 @@ refused_event {old} {v} {w} e fault begins sound h =
     (take NOTE_LIMIT) (quiet_notes v.state e quiet)))
 
 -- and where `?` hands the fault on
-pub handed_on : {A : Type 0} {old v : RunningServer} {w : TreeWaste} (e : Event) (out : Result A Fault → Outcome) (r : Result A Fault)
+pub handed_on : {A : Type 0} {old v : RunningServer} {w : TreeWaste} (e : Event)
+    (out : Result A Fault → Outcome) (r : Result A Fault)
     {fault : Fault} → ((f : Fault) → out (Err f) ≡ Refused f)
     → IsErrAnd r (λ f. f ≡ fault) → v ≡ forgetful old.state w → IsSound v.state →
     Refuses v.state e fault → IsEvent old e

@@ -61,8 +61,7 @@ half_joins b true e o a t n a' t' q f g =
       left = f.left;
       is = whole;
       going = λ h. absurd (both_ways e h k.0);
-      stays =
-          λ h. let j = f.stays h in (k.0, ap (λ z. z ++ a') j.1 ∙ k.1, ap (λ z. z ++ t') j.2 ∙ k.2);
+      stays = λ h. let j = f.stays h in (k.0, ap (λ z. z ++ a') j.1 ∙ k.1, ap (λ z. z ++ t') j.2 ∙ k.2);
     }
 half_joins b false e o a t n a' t' q f g = record {
   left = g.left;
@@ -86,7 +85,6 @@ pub half_ends : (b : Bool) (old : List ℕ) → Half b true old [] [] []
 half_ends b old = record {
   left = old;
   is = append-nil old;
-  going =
-      λ (h : true ≡ false). cc h;
+  going = λ (h : true ≡ false). cc h;
   stays = λ h. (refl, refl, refl);
 }

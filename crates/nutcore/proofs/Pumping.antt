@@ -28,8 +28,7 @@ use Rattle.std.proofs.lemmas.Bool.Decides.{nat_tests}
 abbrev pub line_done : ServerState → Change → SessionState → ServerState
 line_done s change y = record s {
   sessions = put y s.sessions;
-  upses =
-      changed_upses change s.upses;
+  upses = changed_upses change s.upses;
   tracking = changed_tracking change s.tracking;
 }
 

@@ -34,8 +34,7 @@ line_is : (told : ServerLine) → IsSpelled told → IsWholeLine (text_of told) 
 line_is told spelled whole = record {
   spelled = spelled;
   whole = whole;
-  one =
-      (no_line_without_lf whole.line).1 (lawful_words_are_a_line.no_lf whole.line whole.answer.lawful);
+  one = (no_line_without_lf whole.line).1 (lawful_words_are_a_line.no_lf whole.line whole.answer.lawful);
 }
 
 bare_line : (line : List ℕ) → IsLawfulText LINE_LIMIT line → IsWholeLine (line ++ 10 ∷ [])

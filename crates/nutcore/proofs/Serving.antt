@@ -181,8 +181,7 @@ pub line_is : (s v : ServerState) (c i : ℕ) (line : List ℕ) (reply : Reply)
     Replies s c line reply → ListsClients v.sessions reply clients →
     (let t : ServerState = record s {
       upses = changed_upses (change_in reply) s.upses;
-      tracking =
-          changed_tracking (change_in reply) s.tracking;
+      tracking = changed_tracking (change_in reply) s.tracking;
     } in v ≡ t) → StandsAt v c i x → y ≡
     changed_session (change_in reply) (answered line (text_with clients reply) x) →
     let code : ServerState = record v { sessions = set v.sessions i y } in code ≡ after_line s c
@@ -197,7 +196,8 @@ line_is s v c i line reply clients x y h told lists is stands gives =
     session_after_id s c line x found) ∙ done ∙ sym (after_line_is s c line x found h)
 
 -- an empty line asks for nothing: it is taken, and no more
-pub empty_line : (o : Option (List ℕ)) (end : ℕ) → option_map length o ≡ Some end → end ≡ 0 → o ≡ Some []
+pub empty_line : (o : Option (List ℕ)) (end : ℕ) → option_map length o ≡ Some end →
+    end ≡ 0 → o ≡ Some []
 empty_line None end h zero = cc h
 empty_line (Some []) end h zero = refl
 empty_line (Some (b ∷ bs)) end h zero = grind arith

@@ -59,8 +59,7 @@ pub record IsTracked (t : TrackingState) : Type 0 where
 pub act_tracked : (t : TrackingState) (act : Act) → IsLawfulAct act → IsTracked t → IsTracked (after_act t act)
 act_tracked t act lawful h = record {
   sound = acts_keep_it_sound t (act ∷ []) h.sound;
-  numbers =
-      lawful_acts_keep_numbers_lawful t act lawful h.numbers;
+  numbers = lawful_acts_keep_numbers_lawful t act lawful h.numbers;
 }
 
 -- what a line reports

@@ -86,8 +86,7 @@ sound_there m x tree heard pinged owed short no_lf is =
         heard = heard;
         pinged = pinged;
         owed = owed;
-        unfinished =
-            short;
+        unfinished = short;
         one_line = no_lf;
         lost = λ e. never_both x.report.connected is e;
       };
@@ -145,8 +144,7 @@ module _ (empty : IsSoundTree empty_tree) (line_keeps : EachLineKeepsTheTreeSoun
     tree = empty;
     heard = omega arith;
     pinged = omega arith;
-    owed =
-        omega arith;
+    owed = omega arith;
     unfinished = omega arith;
     one_line = refl;
     lost = λ e. refl;
@@ -157,8 +155,7 @@ module _ (empty : IsSoundTree empty_tree) (line_keeps : EachLineKeepsTheTreeSoun
     tree = empty;
     heard = omega arith;
     pinged = omega arith;
-    owed =
-        omega arith;
+    owed = omega arith;
     unfinished = omega arith;
     one_line = refl;
     lost = λ e. cc e;

@@ -57,8 +57,7 @@ goes = record {
       };
   stays = λ o u v up kept. record {
     sent = half_stays _ _ (owed_of o) (grind arith);
-    taken_up =
-        half_stays _ _ (held_of o) (grind arith);
+    taken_up = half_stays _ _ (held_of o) (grind arith);
     keeps = λ h some. up (h some);
   };
   by_line = λ c s line n u kept.
@@ -73,8 +72,7 @@ goes = record {
         taken_up = record {
           left = rest_after line x.held;
           is = split;
-          going =
-              λ e. sym (after.held e);
+          going = λ e. sym (after.held e);
           stays = λ e. never_both x.ending e n.going;
         };
         keeps = λ h. h;
@@ -99,16 +97,14 @@ goes = record {
   };
   opens = λ id address kept. record {
     sent = half_stays false false [] (λ h. h);
-    taken_up =
-        half_stays false false [] (λ h. h);
+    taken_up = half_stays false false [] (λ h. h);
     keeps = λ h k. refl;
   };
   closes = λ x u kept. rw (kept refl)
       (record {
         sent = half_ends false x.owed;
         taken_up = half_ends x.ending x.held;
-        keeps =
-            λ h (k : false ≡ true). cc;
+        keeps = λ h (k : false ≡ true). cc;
       });
 }
 
@@ -123,8 +119,7 @@ pub run_sent : (s t : ServerState) (es : List Event) (os : List Outcome) → IsL
 run_sent s t es os lawful r c = let g = (run_goes c s t es os r lawful).sent in
     record {
       while_open = λ e. g.is ∙ ap (λ z. taken c s es os ++ z) (g.going e);
-      once_closed =
-          λ e. (g.left, sym g.is);
+      once_closed = λ e. (g.left, sym g.is);
     }
 
 pub run_taken_up : (s t : ServerState) (es : List Event) (os : List Outcome) → IsLawful s →

@@ -158,8 +158,7 @@ nearer (suc h) (suc w) c s holds owes =
         new = t;
         run = refl;
         takes = tt;
-        nothing_owed =
-            none;
+        nothing_owed = none;
         nothing_left = is.ended.stopped;
         few = omega arith;
         lines = omega arith;

@@ -47,8 +47,7 @@ anothers c s e m =
     IsAnothers c s (after_by s e m) (of_client c (executions_by s e m)))
     (λ e apart differ. record {
       nothing = ap (of_client c) (apart.silent.executes s m);
-      untouched =
-          same_session _ _ (ap (find c) (apart.sessions s m));
+      untouched = same_session _ _ (ap (find c) (apart.sessions s m));
     })
     (λ address differ. record {
       nothing = refl;
@@ -60,8 +59,7 @@ anothers c s e m =
     })
     (λ d piece differ. record {
       nothing = not_its d (with_input s d piece) differ;
-      untouched =
-          apart (Feed d piece) d refl differ;
+      untouched = apart (Feed d piece) d refl differ;
     })
     (λ d n differ. record {
       nothing = cond_both (may_take (session d s) n) (executions_until (without_output s d n) d m)
@@ -149,8 +147,7 @@ module _ (k : ℕ) (few : k ≤ QUEUE_LIMIT) (c : ℕ) where
       (cond b (e ∷ filter (is_event_of c) es) (filter (is_event_of c) es)) * k) no in
       record {
         lines = omega (arith, rest.lines, holds, none, lines);
-        served =
-            λ enough. rest.served (omega (arith, enough, owes, texts, no_text, times, no_line, events));
+        served = λ enough. rest.served (omega (arith, enough, owes, texts, no_text, times, no_line, events));
       })
   served_run s t es os r among = absurd r
 

@@ -68,8 +68,7 @@ did x refusal verb ups name has_empty_value =
       ups = ups;
       name = name;
       has_empty_value = has_empty_value;
-      refusal =
-          refusal;
+      refusal = refusal;
     }))
 
 -- where its line was read as a command of which that is noted.

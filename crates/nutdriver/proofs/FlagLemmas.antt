@@ -13,8 +13,7 @@ with_flags_of flags words =
     if list_all is_flag words
     then Ok (record {
       rw = flags.rw || list_any is_rw words;
-      string =
-          flags.string || list_any is_string words;
+      string = flags.string || list_any is_string words;
       number = flags.number || list_any is_number words;
     })
     else Err BadFlag

@@ -87,8 +87,7 @@ new_sound : (value : List ℕ) → IsTrue (is_value value) → IsSoundVariable (
 new_sound value lawful = record {
   value = lawful;
   aux = omega arith;
-  enum_values =
-      All-nil _;
+  enum_values = All-nil _;
   enum_values_once = none_once;
   enum_values_few = omega arith;
   ranges = All-nil _;
@@ -102,8 +101,7 @@ module _ (v : VariableState) (s : IsSoundVariable v) where
     value = lawful;
     aux = s.aux;
     enum_values = s.enum_values;
-    enum_values_once =
-        s.enum_values_once;
+    enum_values_once = s.enum_values_once;
     enum_values_few = s.enum_values_few;
     ranges = s.ranges;
     ranges_once = s.ranges_once;
@@ -115,8 +113,7 @@ module _ (v : VariableState) (s : IsSoundVariable v) where
     value = s.value;
     aux = small;
     enum_values = s.enum_values;
-    enum_values_once =
-        s.enum_values_once;
+    enum_values_once = s.enum_values_once;
     enum_values_few = s.enum_values_few;
     ranges = s.ranges;
     ranges_once = s.ranges_once;
@@ -127,8 +124,7 @@ module _ (v : VariableState) (s : IsSoundVariable v) where
   with_flags_sound flags = record {
     value = s.value;
     aux = s.aux;
-    enum_values =
-        s.enum_values;
+    enum_values = s.enum_values;
     enum_values_once = s.enum_values_once;
     enum_values_few = s.enum_values_few;
     ranges = s.ranges;
@@ -144,8 +140,7 @@ module _ (v : VariableState) (s : IsSoundVariable v) where
         value = s.value;
         aux = s.aux;
         enum_values = lawful;
-        enum_values_once =
-            once;
+        enum_values_once = once;
         enum_values_few = few;
         ranges = s.ranges;
         ranges_once = s.ranges_once;
@@ -159,8 +154,7 @@ module _ (v : VariableState) (s : IsSoundVariable v) where
         value = s.value;
         aux = s.aux;
         enum_values = s.enum_values;
-        enum_values_once =
-            s.enum_values_once;
+        enum_values_once = s.enum_values_once;
         enum_values_few = s.enum_values_few;
         ranges = lawful;
         ranges_once = once;

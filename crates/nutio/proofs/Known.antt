@@ -22,7 +22,6 @@ breaks_off contents failures w m a front rest text h e k f =
     (record {
       front = [];
       begins = (rest, refl);
-      bytes_written =
-          keeps_appends (contents m) (contents a) k;
+      bytes_written = keeps_appends (contents m) (contents a) k;
       failed = f;
     }))

@@ -12,7 +12,8 @@ use Rattle.nutjournal.specs.Tally.{priority_of}
 
 pub one_due : (of : Of) (kind : Kind) (old new : Journal) (log : LogBuffer)
     → MoreIf (is_line_logged of kind old.tallies) (priority_of kind) old.log log
-    → new ≡ record old { tallies = after_line_of of kind old.tallies; log = log } → DueMore (due_by of kind) old new
+    → new ≡ record old { tallies = after_line_of of kind old.tallies; log = log } →
+    DueMore (due_by of kind) old new
 one_due (whose.Ups place) kind old new log logged is = record { log = log; logged = logged; is = is }
 one_due (whose.User address) kind old new log logged is = record { log = log; logged = logged; is = is }
 one_due (whose.Order deed) kind old new log logged is = record { log = log; logged = logged; is = is }

@@ -147,8 +147,7 @@ first_mapped f n all = map f (take n all) ++ drop n all
 abbrev pub clients_after_second : Bool → Clients → Clients
 clients_after_second is_minute all = record {
   addresses = record { items = if is_minute then [] else all.addresses.items };
-  tallies =
-      first_mapped (λ y. after_second y is_minute) (length all.addresses.items + 1) all.tallies;
+  tallies = first_mapped (λ y. after_second y is_minute) (length all.addresses.items + 1) all.tallies;
 }
 
 -- Once a second begins, so do that of these UPSs and those of all clients, and no order was given

@@ -131,21 +131,18 @@ number_lawful : (z : ℤ) → neg_ℤ (pos NUMBER_LIMIT) ≤ℤ z → z ≤ℤ p
 number_lawful z low high = let few = small z low high in
     record {
       short = length_signed_le 10 z (omega (arith, few)) (omega (arith, few));
-      lawful =
-          signed_lawful z (omega (arith, ints));
+      lawful = signed_lawful z (omega (arith, ints));
     }
 
 pub texts_are_lawful : TextsAreLawful
 texts_are_lawful = record {
   names = λ text h. record { short = text_short is_name_byte false NAME_LIMIT text h; lawful = name_lawful text h };
   ups_names = λ text h. record {
-    short =
-        text_short is_name_byte false UPS_NAME_LIMIT text h;
+    short = text_short is_name_byte false UPS_NAME_LIMIT text h;
     lawful = ups_name_lawful text h;
   };
   addresses = λ text h. record {
-    short =
-        text_short is_address_byte false ADDRESS_LIMIT text h;
+    short = text_short is_address_byte false ADDRESS_LIMIT text h;
     lawful = address_lawful text h;
   };
   values = λ text h. record { short = text_short is_lawful true VALUE_LIMIT text h; lawful = value_lawful text h };
@@ -155,8 +152,7 @@ texts_are_lawful = record {
   decimals = decimal_lawful;
   numbers = number_lawful;
   quoted = λ most text h. record {
-    short =
-        (let few = h.short in omega (arith, few, quoted_is_short text));
+    short = (let few = h.short in omega (arith, few, quoted_is_short text));
     lawful = quoted_lawful text h.lawful;
   };
 }
@@ -196,8 +192,7 @@ words_whole mosts words h few =
     record {
       line = join_with_byte 32 words;
       whole = refl;
-      answer =
-          record { fits = (let short = text.short in omega (arith, short, few)); lawful = text.lawful };
+      answer = record { fits = (let short = text.short in omega (arith, short, few)); lawful = text.lawful };
     }
 
 pub lawful_words_are_a_line : LawfulWordsAreALine

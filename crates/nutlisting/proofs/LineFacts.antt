@@ -21,6 +21,5 @@ pub is_line : (text : List ℕ) → IsWholeLine text → IsLine text
 is_line text h = record {
   body = h.line;
   ends = h.whole;
-  whole =
-      all_also is_lawful (λ b. not (is_lf b)) not_lf h.line h.answer.lawful;
+  whole = all_also is_lawful (λ b. not (is_lf b)) not_lf h.line h.answer.lawful;
 }

@@ -73,8 +73,7 @@ text_word few text h = record {
   meant = text;
   shown = quoted text;
   most = 2 * few + 2;
-  written =
-      in_quotes h.lawful;
+  written = in_quotes h.lawful;
   text = texts_are_lawful.quoted few text h;
 }
 

@@ -1,5 +1,6 @@
 -- What `known` and `look` answer, by the visits that they make.
-use Rattle.std.proofs.Common.{◌≡◌, ◌∙◌, Bool, true, false, Option, Some, None, ℕ, refl, inl, inr, subst, sym, arith}
+use Rattle.std.proofs.Common.{◌≡◌, ◌∙◌, Bool, true, false, Option, Some, None, ℕ}
+use Rattle.std.proofs.Common.{refl, inl, inr, subst, sym, arith}
 use Rattle.std.specs.Prelude.{◌≤◌, if◌then◌else◌, unwrap_or, MatchOption}
 use Rattle.std.specs.Option.{option_map_or}
 use Rattle.nutcore.specs.Server.{ServerState}
@@ -22,7 +23,8 @@ going_on false pass next h = (cc, cc)
 abbrev IsLike : {R F : Type 0} → MioSockets R F → MioSockets R F → Type 0
 IsLike old new = new ≡ record old { pass = new.pass; here = new.here }
 
-of_like : {R F : Type 0} (P : MioSockets R F → MioSockets R F → Type 0) (old new : MioSockets R F) → IsLike old new
+of_like : {R F : Type 0} (P : MioSockets R F → MioSockets R F → Type 0)
+    (old new : MioSockets R F) → IsLike old new
     → P old (record old { pass = new.pass; here = new.here }) → P old new
 of_like {R} {F} P old new same h = subst (λ (m : MioSockets R F). P old m) (sym same) h
 
@@ -70,7 +72,8 @@ ids_due {F} ids = option_map_or (λ (x : Ids F). x.due) ids 0
 
 pub known_then : {R F : Type 0} (s : ServerState) (old mid new : MioSockets R F) (answer : Option Ready)
     (ids : Option (Ids F)) → mid ≡ record old { ids = ids; left = None; sent_away = None } →
-    ids_due ids ≤ ids_due old.ids → IsLike mid new → Gives s mid answer new → Knows (told_of old) s answer (told_of new)
+    ids_due ids ≤ ids_due old.ids → IsLike mid new → Gives s mid answer new →
+    Knows (told_of old) s answer (told_of new)
 unfolding ids_due
 known_then {R} {F} s old mid new answer ids is fewer like gives =
     let from : MioSockets R F = record old { ids = ids; left = None; sent_away = None } in
@@ -97,7 +100,8 @@ pub after_look : {R F : Type 0} (s : ServerState) (looked new : MioSockets R F) 
 after_look {R} {F} s looked new answer ready reached is same gives reported =
     let at_fresh : GivesTurn s looked fresh answer new.pass =
     subst (λ (p : Pass). GivesTurn s looked p answer new.pass) is gives in
-    of_like (λ a b. GivesTurn s a fresh answer b.pass → a.second ≤ s.moment → Begins s ready (Some (passing_of b)))
+    of_like (λ a b. GivesTurn s a fresh answer b.pass → a.second ≤ s.moment →
+    Begins s ready (Some (passing_of b)))
     looked new same (by answer reported) at_fresh reached
   where
     by : (answer : Option Ready) → ready ≡ unwrap_or answer Nothing →

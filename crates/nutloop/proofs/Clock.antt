@@ -1,5 +1,6 @@
 -- The server's moment is at least the second of the last look.
-use Rattle.std.proofs.Common.{◌≡◌, ◌⊎◌, ◌∙◌, ◌≤◌, ℕ, true, List, [], ◌∷◌, ◌++◌, Option, Some, None}
+use Rattle.std.proofs.Common.{◌≡◌, ◌⊎◌, ◌∙◌, ◌≤◌, ℕ, true, List, []}
+use Rattle.std.proofs.Common.{◌∷◌, ◌++◌, Option, Some, None}
 use Rattle.std.proofs.Common.{refl, ap, arith, inl, inr}
 use Rattle.nutcore.specs.declared.event.Event.{Event}
 use Rattle.nutcore.specs.DriverRuns.{IsNewServer}
@@ -53,16 +54,19 @@ module _ {S R : Type 0} (told : S → Told) (holds : R → Recorded) where
     where
       by : old.server.state.moment ≡ greatest_tick (turns_between told holds start before old begun).events →
           new.server.state.moment ≡ greatest_tick ((turns_between told holds start before old begun).events ++
-          ((one told holds look.soon old mid look.turn).events ++ (turns_between told holds mid later new rest).events)) →
+          ((one told holds look.soon old mid look.turn).events ++
+          (turns_between told holds mid later new rest).events)) →
           (look.turn.ready ≡ Tick look.is.so_far.second) ⊎ (look.is.so_far.second ≤ old.server.state.moment) →
           look.is.so_far.second ≤ new.server.state.moment
       by at_old at_new (inl tick) = omega (
         arith,
         at_new,
         tick_in_row old.server.state look.turn.ready look.turn.row.answer look.is.so_far.second tick,
-        first_ticks (one told holds look.soon old mid look.turn).events (turns_between told holds mid later new rest).events,
+        first_ticks (one told holds look.soon old mid look.turn).events
+            (turns_between told holds mid later new rest).events,
         last_ticks (turns_between told holds start before old begun).events
-            ((one told holds look.soon old mid look.turn).events ++ (turns_between told holds mid later new rest).events),
+            ((one told holds look.soon old mid look.turn).events ++
+            (turns_between told holds mid later new rest).events),
       )
       by at_old at_new (inr reached) = omega (
         arith,
@@ -70,7 +74,8 @@ module _ {S R : Type 0} (told : S → Told) (holds : R → Recorded) where
         at_new,
         reached,
         first_ticks (turns_between told holds start before old begun).events
-            ((one told holds look.soon old mid look.turn).events ++ (turns_between told holds mid later new rest).events),
+            ((one told holds look.soon old mid look.turn).events ++
+            (turns_between told holds mid later new rest).events),
       )
 
   pub no_answer_is_older_by_the_clock : TheMomentIsTheGreatestTick → NoAnswerIsOlderByTheClock told holds

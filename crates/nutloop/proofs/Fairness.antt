@@ -81,8 +81,7 @@ of_going b c n m h = grind arith
 counted_again : (pass : Pass) → goes_on pass ≡ true → Counted (again pass)
 counted_again pass on = record {
   within = omega arith;
-  few =
-      omega (arith, of_going pass.had_turn pass.was_driver_read pass.turns TURNS_PER_LOOK on);
+  few = omega (arith, of_going pass.had_turn pass.was_driver_read pass.turns TURNS_PER_LOOK on);
 }
 
 counted_turn : (may : Stop → Bool) (old new : Pass) (visited : Stop) → Counted old → HasTurn may old visited new
@@ -199,7 +198,8 @@ module _ {S R : Type 0} (told : S → Told) (holds : R → Recorded) where
     second : last.second ≡ before.second
 
   handed : (t : Option Turn) (ts : List (Option Turn)) (old mid last : ℕ) → Hands old t mid →
-      length ts + last ≤ length (turns_in ts) + mid → length (t ∷ ts) + last ≤ length (turns_in (t ∷ ts)) + old
+      length ts + last ≤ length (turns_in ts) + mid → length (t ∷ ts) + last ≤
+      length (turns_in (t ∷ ts)) + old
   handed None ts old mid last hands later = omega (arith, hands, later)
   handed (Some t) ts old mid last hands later = omega (arith, hands, later)
 
@@ -273,7 +273,8 @@ module _ {S R : Type 0} (told : S → Told) (holds : R → Recorded) where
       (looks : FromLookToLook told holds old turns new) → GoThrough fresh turns looks.is.so_far.pass
   go_through old turns new looks =
       subst (λ (ts : List Turn). GoThrough fresh ts looks.is.so_far.pass) (sym looks.from.all)
-      (of_peers old fresh (looks.from.first ∷ looks.from.later) looks.is.so_far.pass new (reached old turns new looks))
+      (of_peers old fresh (looks.from.first ∷ looks.from.later) looks.is.so_far.pass new
+      (reached old turns new looks))
 
   few : (old new : Loop S R) (turns : List Turn) → FromALook told holds old turns new →
       length turns + 1 ≤ TURNS_PER_LOOK + STOPS
@@ -349,7 +350,8 @@ module _ {S R : Type 0} (told : S → Told) (holds : R → Recorded) where
         ),
       )
 
-  until_a_look : (old mid new : Loop S R) (turns : List Turn) (t : Option Turn) → FromALook told holds old turns mid →
+  until_a_look : (old mid new : Loop S R) (turns : List Turn) (t : Option Turn) →
+      FromALook told holds old turns mid →
       IsOneOf told holds true mid t new → FromLookToLook told holds old turns mid
   until_a_look old mid new turns t from look =
       passed (told mid.sockets).passing refl look.finds

@@ -1,5 +1,6 @@
 -- Who hears an event: the client or the driver of its place, and nobody else.
-use Rattle.std.proofs.Common.{◌≡◌, ◌∙◌, ◌++◌, ℕ, Bool, true, false, List, [], ◌∷◌, Option, Some, None}
+use Rattle.std.proofs.Common.{◌≡◌, ◌∙◌, ◌++◌, ℕ, Bool, true, false, List, []}
+use Rattle.std.proofs.Common.{◌∷◌, Option, Some, None}
 use Rattle.std.proofs.Common.{refl, ap, sym, subst}
 use Rattle.std.specs.Prelude.{◌≢◌, ◌==◌, if◌then◌else◌, map, slice_get}
 use denote.Ref.{Bor}
@@ -55,7 +56,8 @@ pub clients_hear : (events : List Event) (e : Event) (at : Source) (old mid new 
 clients_hear events e at old mid new is before now place =
     slot_hears client_heard (source.Client place) events e (client_in old place) (client_in mid place)
     (client_in new place) (before place)
-    (now place ∙ ap (λ (s : Source). heard_by client_heard (is_same (source.Client place) s) e (client_in mid place)) (sym is))
+    (now place ∙ ap (λ (s : Source). heard_by client_heard (is_same (source.Client place) s) e
+    (client_in mid place)) (sym is))
 
 pub drivers_hear : (events : List Event) (e : Event) (at : Source) (old mid new : List Driver) →
     source_of (event_token e).0 ≡ at → DriversHear events old mid →
@@ -65,7 +67,8 @@ pub drivers_hear : (events : List Event) (e : Event) (at : Source) (old mid new 
 drivers_hear events e at old mid new is before now place =
     slot_hears driver_heard (source.Driver place) events e (slice_get old place) (slice_get mid place)
     (slice_get new place) (before place)
-    (now place ∙ ap (λ (s : Source). heard_by driver_heard (is_same (source.Driver place) s) e (slice_get mid place)) (sym is))
+    (now place ∙ ap (λ (s : Source). heard_by driver_heard (is_same (source.Driver place) s) e
+    (slice_get mid place)) (sym is))
 
 -- The own place hears, and the others don't.
 pub own_hears : {X : Type 0} (hear : Event → X → X) (e : Event) (own : ℕ) (old new : ℕ → Option X) →
@@ -97,7 +100,8 @@ pub all_hear : (events : List (Bor Event)) (e : Bor Event) (at : Source) (door m
     heard_by driver_heard (is_same (source.Driver place) at) e.now (slice_get told place)) →
     AllHear (events ++ e ∷ []) door new clients hears drivers tells
 all_hear events e at door mid new clients heard hears drivers told tells is before opens by_client by_driver =
-    let join : map (λ (b : Bor Event). b.now) (events ++ e ∷ []) ≡ map (λ (b : Bor Event). b.now) events ++ e.now ∷ [] =
+    let join : map (λ (b : Bor Event). b.now) (events ++ e ∷ []) ≡
+    map (λ (b : Bor Event). b.now) events ++ e.now ∷ [] =
     map-append (λ (b : Bor Event). b.now) events (e ∷ []) in (
       opens,
       subst (λ es. ClientsHear es clients hears) (sym join)
@@ -121,7 +125,8 @@ pub heard_stay : (events : List Event) (old new : List (Option Client)) → Clie
     StayInTheirPlaces old new
 heard_stay events old new hear place = ap who (hear place) ∙ by (client_in old place)
   where
-    by : (slot : Option Client) → who (option_map (heard_all client_heard (source.Client place) events) slot) ≡ who slot
+    by : (slot : Option Client) → who
+        (option_map (heard_all client_heard (source.Client place) events) slot) ≡ who slot
     by None = refl
     by (Some x) = who_heard (source.Client place) events x
 

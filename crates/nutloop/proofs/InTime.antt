@@ -143,8 +143,7 @@ module _ {S R : Type 0} (told : S → Told) (holds : R → Recorded) where
             after = ts;
             all = refl;
             visited = same;
-            looks =
-                turn.looks;
+            looks = turn.looks;
             from = old;
             to = mid;
             earlier = refl;

@@ -1,5 +1,6 @@
 -- Who is silent after a tick.
-use Rattle.std.proofs.Common.{◌≡◌, ◌∙◌, ◌&&◌, ℕ, Bool, true, false, List, Option, Some, None, refl, ap, subst, sym}
+use Rattle.std.proofs.Common.{◌≡◌, ◌∙◌, ◌&&◌, ℕ, Bool, true, false, List, Option}
+use Rattle.std.proofs.Common.{Some, None, refl, ap, subst, sym}
 use Rattle.std.proofs.Common.{◌++◌, append-nil, drop, length, take}
 use Rattle.std.proofs.Math.Seq.{drop-length, take-length}
 use Rattle.std.specs.List.{refill}
@@ -13,7 +14,8 @@ use Rattle.nutloop.specs.Pass.{client_in, client_may}
 use Rattle.nutloop.specs.declared.over_mio.MioSockets.{MioSockets}
 use Rattle.nutloop.specs.declared.over_mio.door.Newcomer.{Newcomer}
 use Rattle.nutloop.specs.declared.over_mio.places.Admission.{Admission}
-use Rattle.nutloop.specs.Places.{BecomesOf, Decides, EndsIfSilent, IsDoneWith, EndsSilent, Goes, NobodyIsSilent, is_silent, silence}
+use Rattle.nutloop.specs.Places.{BecomesOf, Decides, EndsIfSilent, IsDoneWith, EndsSilent, Goes}
+use Rattle.nutloop.specs.Places.{NobodyIsSilent, is_silent, silence}
 use Rattle.std.proofs.Math.Bool.{and-false}
 
 -- A slice of so many elements stands in the place of all.
@@ -52,8 +54,10 @@ nobody_stays s idle second old new ends place =
 
 -- What becomes of the newcomer that is there, by the decision.
 pub becomes : {R F : Type 0} (s : ServerState) (old new : MioSockets R F) (x : Newcomer) (decision : Admission) →
-    old.entrance.newcomer ≡ Some x → Decides s old x (Some decision) → IsDoneWith (Some decision) x old None new →
-    MatchOption old.entrance.newcomer ((◌≡◌ {A = Option (List ℕ)} None None) × (new ≡ old)) (λ x. BecomesOf s x old None new)
+    old.entrance.newcomer ≡ Some x → Decides s old x (Some decision) →
+    IsDoneWith (Some decision) x old None new →
+    MatchOption old.entrance.newcomer
+    ((◌≡◌ {A = Option (List ℕ)} None None) × (new ≡ old)) (λ x. BecomesOf s x old None new)
 becomes {R} {F} s old new x decision there decides done =
     subst (λ (o : Option Newcomer). MatchOption o ((◌≡◌ {A = Option (List ℕ)} None None) × (new ≡ old))
     (λ y. BecomesOf s y old None new)) (sym there)

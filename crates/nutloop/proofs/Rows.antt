@@ -86,7 +86,8 @@ module _ {S R : Type 0} (told : S → Told) (holds : R → Recorded) where
     run = (mid.server.state, h.step, refl);
     noted = h.noted;
     recorded = h.recorded;
-    reported = subst (λ cs. Answers (told old.sockets) cs (told after)) (sym is ∙ sym (append-nil (calls_behind e o)))
+    reported = subst (λ cs. Answers (told old.sockets) cs (told after))
+        (sym is ∙ sym (append-nil (calls_behind e o)))
         (subst (λ (x : S). Answers (told x) calls (told after)) h.sockets reported);
   }
 
@@ -113,7 +114,8 @@ module _ {S R : Type 0} (told : S → Told) (holds : R → Recorded) where
     answer = answer;
     may = subst (λ x. MayAnswer x answer) (sym asked) may;
     mid = mid;
-    called = subst (λ x. Reports (failures_by answer) (told old.sockets) (answered x answer) (told mid)) (sym asked) called;
+    called = subst (λ x. Reports (failures_by answer) (told old.sockets) (answered x answer)
+        (told mid)) (sym asked) called;
     does = subst (λ x. Does told holds x (record old { sockets = mid }) new) (sym rows) does;
   }
 

@@ -304,8 +304,7 @@ is_one u s (e ∷ es) (o ∷ os) h =
           ap
           (λ v. driver.last (record {
             given = driver.given_in_event u s e o ++ rest.given;
-            taken =
-                v ++ along (took_of u) (after s e o) es os;
+            taken = v ++ along (took_of u) (after s e o) es os;
           })) (took_is u s e h.0);
     }
 

@@ -160,7 +160,8 @@ row_reads_at_once s (Write (Driver u)) answer may = driver_writes u answer
 
 -- The calls of a row, after those that find what is ready.
 pub row_reads : (g : Call → List ℕ) (f : ServerState → Event → List ℕ) → Fit g f →
-    (found a b : List Call) (bytes : List ℕ) → flat_map g found ≡ [] → flat_map g a ≡ bytes → flat_map g b ≡
+    (found a b : List Call) (bytes : List ℕ) → flat_map g found ≡ [] → flat_map g a ≡
+    bytes → flat_map g b ≡
     [] → flat_map g ((found ++ a) ++ b) ≡ bytes
 row_reads g f fit found a b bytes hf ha hb =
     flat_map-append g (found ++ a) b
@@ -170,7 +171,8 @@ row_reads g f fit found a b bytes hf ha hb =
     ∙ ha
 
 -- What found what is ready: nothing, or a look.
-abbrev pub finding : {soon : Bool} {s : ServerState} {ready : Ready} {a b : Told} → IsFound soon s ready a b → List Call
+abbrev pub finding : {soon : Bool} {s : ServerState} {ready : Ready} {a b : Told} →
+    IsFound soon s ready a b → List Call
 finding {soon} {s} {ready} (inl known) = Readied ready ∷ []
 finding {soon} {s} {ready} (inr looked) = look_calls looked.0 ready
 
@@ -179,7 +181,8 @@ pub found_follows : {soon : Bool} {s : ServerState} {ready : Ready} {a b : Told}
 found_follows (inl known) = known.follows
 found_follows (inr looked) = looked.2.follows
 
-pub found_reads : (g : Call → List ℕ) (f : ServerState → Event → List ℕ) → Fit g f → {soon : Bool} {s : ServerState}
+pub found_reads : (g : Call → List ℕ) (f : ServerState → Event → List ℕ) → Fit g f →
+    {soon : Bool} {s : ServerState}
     {ready : Ready} {a b : Told} (h : IsFound soon s ready a b) → flat_map g (finding h) ≡ []
 found_reads g f fit {soon} {s} {ready} (inl known) = append-nil (g (Readied ready)) ∙ fit.readied ready
 found_reads g f fit {soon} {s} {ready} (inr looked) =
@@ -231,7 +234,8 @@ module _ {S R : Type 0} (told : S → Told) (holds : R → Recorded) where
   abbrev nothing_happens : (old new : Loop S R) (since : List Call) → new.server.state ≡ old.server.state →
       Follows (told old.sockets).calls since (told new.sockets).calls →
       Continues (holds old.recorder) [] (holds new.recorder) →
-      ((g : Call → List ℕ) (f : ServerState → Event → List ℕ) → Fit g f → flat_map g since ≡ []) → Between old new
+      ((g : Call → List ℕ) (f : ServerState → Event → List ℕ) → Fit g f →
+      flat_map g since ≡ []) → Between old new
   nothing_happens old new since same follows recorded moves = record {
     since = since;
     events = [];

@@ -31,7 +31,8 @@ record Within (s : ServerState) (es : List Event) (os : List Outcome) : Type 0 w
 
 each_within : EachEventIsBounded → EachEventKeepsTheServerSound → (s t : ServerState) (es : List Event)
     (os : List Outcome) → Run s es os t → IsSound s → Within s es os
-each_within bounded keeps s t [] [] r sound = record { lines = omega arith; placed = omega arith; renders = omega arith }
+each_within bounded keeps s t [] [] r sound =
+    record { lines = omega arith; placed = omega arith; renders = omega arith }
 each_within bounded keeps s t [] (o ∷ os) r sound = absurd r
 each_within bounded keeps s t (e ∷ es) [] r sound = absurd r
 each_within bounded keeps s t (e ∷ es) (o ∷ os) (mid, step, rest) sound =
@@ -41,7 +42,13 @@ each_within bounded keeps s t (e ∷ es) (o ∷ os) (mid, step, rest) sound =
     (subst IsSound step.leaves (keeps s mid e o step sound)) in
     record {
       lines = omega (arith, length-append (executions_in_event s e o) (executions next es os), one.in_all, later.lines);
-      placed = omega (arith, sum_by-cons (λ cost. cost.placed) (cost_of s e next) (costs next es os), one.bytes, later.placed);
+      placed = omega (
+        arith,
+        sum_by-cons (λ cost. cost.placed) (cost_of s e next)
+            (costs next es os),
+        one.bytes,
+        later.placed,
+      );
       renders = omega (
         arith,
         sum_by-cons (λ cost. cost.placed) (cost_of s e next) (costs next es os),
@@ -71,7 +78,8 @@ work bounded keeps most old new f sound =
       renders = is.renders;
     }
 
-one_at_most : (old new : RunningServer) (es : List Event) (os : List Outcome) → AreNoted old es os new → length es ≤ 1
+one_at_most : (old new : RunningServer) (es : List Event) (os : List Outcome) →
+    AreNoted old es os new → length es ≤ 1
 one_at_most old new [] os h = omega arith
 one_at_most old new (e ∷ []) os h = omega arith
 one_at_most old new (e ∷ f ∷ es) [] h = absurd h
@@ -96,7 +104,8 @@ module _ {S R : Type 0} (told : S → Told) (holds : R → Recorded) where
         few = omega (
           arith,
           length-append es later.events,
-          one_at_most (forgetful old.server.state turn.server.waste) mid.server es turn.row.does.outcomes turn.row.does.noted,
+          one_at_most (forgetful old.server.state turn.server.waste) mid.server es
+              turn.row.does.outcomes turn.row.does.noted,
           later.few,
         );
       }

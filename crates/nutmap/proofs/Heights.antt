@@ -44,8 +44,7 @@ node_tree R marks es fs e hl hr h says l r s c is marked = record {
   marked = marked;
   tree = record {
     rising = s.rising;
-    enough =
-        rw length-append (omega (arith, node_enough hl hr h (length es) (length fs) l.enough r.enough c is));
+    enough = rw length-append (omega (arith, node_enough hl hr h (length es) (length fs) l.enough r.enough c is));
   };
   height = is;
   balanced = c;

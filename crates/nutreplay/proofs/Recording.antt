@@ -82,8 +82,7 @@ module _ (list : List Ups) (max_age : ℕ) where
         part = front;
         first = events;
         lost = e ∷ [];
-        script_is =
-            refl;
+        script_is = refl;
         events_are = refl;
         read = read;
         begins = begins;
@@ -103,8 +102,7 @@ module _ (list : List Ups) (max_age : ℕ) where
       first = events;
       lost = [];
       script_is = refl;
-      events_are =
-          sym (append-nil events);
+      events_are = sym (append-nil events);
       read = read;
       begins = begins;
     });

@@ -67,8 +67,7 @@ pub nothing_is_sound : IsSoundTracking nothing_tracked
 nothing_is_sound = record {
   ids_few = omega arith;
   orders_few = omega arith;
-  small =
-      λ id h. omega arith;
+  small = λ id h. omega arith;
   once = λ id. omega arith;
 }
 

@@ -7,12 +7,10 @@ use Rattle.nutusers.specs.DescriptionStep.{descriptions_with}
 descriptions-line : (line : TableLine) (lines : List TableLine) →
     record {
       vars = texts_of (codes "VARDESC") (line ∷ lines);
-      cmds =
-          texts_of (codes "CMDDESC") (line ∷ lines);
+      cmds = texts_of (codes "CMDDESC") (line ∷ lines);
     } ≡ descriptions_with (record {
       vars = texts_of (codes "VARDESC") lines;
-      cmds =
-          texts_of (codes "CMDDESC") lines;
+      cmds = texts_of (codes "CMDDESC") lines;
     }) line
 descriptions-line silent lines = refl
 descriptions-line malformed lines = refl

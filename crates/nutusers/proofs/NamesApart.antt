@@ -1,5 +1,6 @@
 -- No two sections of an accepted file have one name, so the names rise once they are sorted.
-use Rattle.std.proofs.Common.{◌≡◌, suc, ◌+◌, ◌<◌, ℕ, List, [], ◌∷◌, map, reverse, Bool, true, false}
+use Rattle.std.proofs.Common.{◌≡◌, suc, ◌+◌, ◌<◌, ℕ, List, [], ◌∷◌, map}
+use Rattle.std.proofs.Common.{reverse, Bool, true, false}
 use Rattle.std.proofs.Common.{◌||◌, not, cond, Option, None, Some, is_some, refl, sym, ap}
 use Rattle.std.proofs.Common.{subst, ◌∙◌, arith, length, get_or, Result, Ok, Err, inl, inr}
 use Rattle.std.specs.Prelude.{MatchResult}
@@ -53,7 +54,8 @@ pub record HasNames {A : Type 0} (name_of : A → List ℕ) (of : List ℕ × Li
       is_some (find (λ a. bytes_eq (name_of a) name) all) ≡ false
 
 -- what is found is there, and passes
-found_is : {X : Type 0} (p : X → Bool) (xs : List X) (x : X) → find p xs ≡ Some x → Contains xs x × (p x ≡ true)
+found_is : {X : Type 0} (p : X → Bool) (xs : List X) (x : X) → find p xs ≡ Some x →
+    Contains xs x × (p x ≡ true)
 found_is p [] x h = absurd (cc h)
 found_is p (y ∷ ys) x h = elim (cases_Bool (p y)) [
   | inl passes ↦ (let same : y ≡ x = cc (rw passes at h) in ((0, omega arith, same), sym (ap p same) ∙ passes))
@@ -136,7 +138,8 @@ module _ {A : Type 0} (name_of : A → List ℕ) where
   found_there name xs i d apart within here =
       let p : A → Bool = λ a. bytes_eq (name_of a) name in
       let first : position_or_len p xs ≡ i = position_or_len_is p xs i d (omega (arith, within))
-      (λ k below. ap (bytes_eq (name_of (get_or xs k d))) (sym here) ∙ sym (is_eq-slice_cmp (name_of (get_or xs k d)) (name_of (get_or xs i d))) ∙
+      (λ k below. ap (bytes_eq (name_of (get_or xs k d))) (sym here) ∙
+      sym (is_eq-slice_cmp (name_of (get_or xs k d)) (name_of (get_or xs i d))) ∙
       apart_from_distinct same_name xs k i d apart below within)
       (λ h. (bytes_eq-Decides (name_of (get_or xs i d)) name).1 here) in
       find_at p xs ∙ ap (slice_get xs) first ∙ slice_get-get_or xs i d within

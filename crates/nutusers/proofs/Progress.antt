@@ -67,8 +67,7 @@ module _ {format : Format} {A : Type 0} {meaning : List (List ℕ) → A} {lines
         line = line;
         later = left;
         whole = h.whole;
-        accepted =
-            h.accepted;
+        accepted = h.accepted;
         number = ap (λ m. m + 1) h.number_is;
         here = why;
         memory = memory;

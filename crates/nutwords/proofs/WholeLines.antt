@@ -72,8 +72,7 @@ all_unfinished text tail is none = let rest : unfinished_after text ≡ text =
     ap (λ (lines : List (List ℕ)). drop (length (joined lines)) text) none in
     record {
       lines_are = none;
-      tail_is =
-          ap (λ (z : List ℕ). cond (is_too_long z) Overlong (Unfinished z)) rest ∙ is;
+      tail_is = ap (λ (z : List ℕ). cond (is_too_long z) Overlong (Unfinished z)) rest ∙ is;
       all = sym rest;
     }
 

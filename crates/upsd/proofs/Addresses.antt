@@ -1,5 +1,6 @@
 -- The addresses that texts write, read place by place.
-use Rattle.std.proofs.Common.{◌≡◌, ◌≢◌, ◌∙◌, ◌<◌, ◌+◌, ℕ, Bool, true, false, List, Some, length, slice_get, ap, arith, refl, subst, sym}
+use Rattle.std.proofs.Common.{◌≡◌, ◌≢◌, ◌∙◌, ◌<◌, ◌+◌, ℕ, Bool, true}
+use Rattle.std.proofs.Common.{false, List, Some, length, slice_get, ap, arith, refl, subst, sym}
 use Rattle.std.specs.Prelude.{nat_lt, slice_set}
 use Rattle.std.specs.Net.Grammar.{IsSocketText}
 use Rattle.std.specs.declared.net.socket_addr.SocketAddr.{SocketAddr}
@@ -21,7 +22,8 @@ pub one_more : (P : ℕ → SocketAddr → Type 0) (list : List SocketAddr) (pla
     → length list ≡ 8 → place < 8 → P place address
     → ((k : ℕ) → k < place → (x : SocketAddr) × (slice_get list k ≡ Some x) × P k x)
     → (length (slice_set list place address) ≡ 8)
-    × ((k : ℕ) → k < place + 1 → (x : SocketAddr) × (slice_get (slice_set list place address) k ≡ Some x) × P k x)
+    × ((k : ℕ) → k < place + 1 → (x : SocketAddr) ×
+    (slice_get (slice_set list place address) k ≡ Some x) × P k x)
 one_more P list place address size below here before =
     (length-set list place address ∙ size, λ k under. at k under (nat_lt k place) refl) where
       within : (k : ℕ) → k < 8 → k < length (slice_set list place address)
@@ -35,7 +37,8 @@ one_more P list place address size below here before =
           let other : k ≢ place = grind arith in (
             old.0,
             slice_get-get_or (slice_set list place address) k old.0 (within k (omega (arith, lower, below)))
-                ∙ ap (λ x. Some x) (get_or-set_other list place k address old.0 other ∙ get_or_from_slice_get list k old.0 old.0 old.1),
+                ∙ ap (λ x. Some x) (get_or-set_other list place k address old.0 other ∙
+                get_or_from_slice_get list k old.0 old.0 old.1),
             old.2,
           )
       at k under false is =
@@ -43,6 +46,7 @@ one_more P list place address size below here before =
           subst (λ n. (x : SocketAddr) × (slice_get (slice_set list place address) n ≡ Some x) × P n x) same (
             address,
             slice_get-get_or (slice_set list place address) place address (within place below)
-                ∙ ap (λ x. Some x) (get_or-set_same list place address address (subst (λ n. place < n) (sym size) below)),
+                ∙ ap (λ x. Some x) (get_or-set_same list place address address
+                (subst (λ n. place < n) (sym size) below)),
             here,
           )

@@ -17,16 +17,14 @@ returns-clause-kept c =
       inserted = rising.inserted;
       removed = rising.removed;
       added = counts.added;
-      replaced =
-          counts.replaced;
+      replaced = counts.replaced;
       taken = counts.taken_out;
       absent = counts.absent;
     } in
     let units_laws : MapLaws ⊤ = record {
       inserted = units_rising.inserted;
       removed = units_rising.removed;
-      added =
-          units_counts.added;
+      added = units_counts.added;
       replaced = units_counts.replaced;
       taken = units_counts.taken_out;
       absent = units_counts.absent;

@@ -5,7 +5,6 @@ pub returns : goal.returns
 returns c = record {
   first = law.nothing_is_sound;
   kept = law.acts_keep_it_sound;
-  apart =
-      law.known_ids_are_written_apart;
+  apart = law.known_ids_are_written_apart;
   numbers = law.lawful_acts_keep_numbers_lawful;
 }

@@ -21,7 +21,8 @@ pub invariant_of-self : goal.invariant_of-self
 invariant_of-self c =
     let v : ServerState = (the_view c.self.inside).state in
     let here = stands (state_is c.self.view_is) c.in_ok-place.ensures.place c.index.ensures in
-    let left : c.remove-session.new.self.items ≡ without c.args.c v.sessions = c.remove-session.ensures.by_index.2 ∙ sym
+    let left : c.remove-session.new.self.items ≡ without c.args.c v.sessions =
+    c.remove-session.ensures.by_index.2 ∙ sym
     (left_out 1 v.next_id c.args.c c.in_ok-place.place v.sessions c.self.invariant.sound.ids here.at) in
     record {
       sound = subst (λ (xs : List SessionState). let z : ServerState =
@@ -34,7 +35,8 @@ returns c =
     let v : ServerState = (the_view c.self.inside).state in
     let begins = c.self.view_is ∙ c.forget.ensures.begun in
     let here = stands (state_is c.self.view_is) c.in_ok-place.ensures.place c.index.ensures in
-    let left : c.remove-session.new.self.items ≡ without c.args.c v.sessions = c.remove-session.ensures.by_index.2 ∙ sym
+    let left : c.remove-session.new.self.items ≡ without c.args.c v.sessions =
+    c.remove-session.ensures.by_index.2 ∙ sym
     (left_out 1 v.next_id c.args.c c.in_ok-place.place v.sessions c.self.invariant.sound.ids here.at) in
     plain_event (Close c.args.c) tt begins c.self.invariant.sound refl (close_present v c.args.c _ _ here.found left)
     (close_noted v c.args.c _ _ _ here.found (none_noted begins) c.note_logout.ensures)

@@ -24,8 +24,7 @@ returns c =
         ap (λ (xs : List SessionState). let r : RunningServer =
             record {
               state = record v { sessions = xs };
-              cost =
-                  (the_view c.self.inside).cost;
+              cost = (the_view c.self.inside).cost;
               notes = (the_view c.self.inside).notes;
               waste = (the_view c.self.inside).waste;
             } in r) (ap (set v.sessions c.in_ok-place.place)

@@ -49,7 +49,8 @@ returns-else-loses_driver g c =
     let front = take n c.read.new.into in
     let full : length {A = ℕ} c.read.new.into ≡ DRIVER_READ_LIMIT = omega (arith, c.read.auto.into) in
     let bound : n ≤ length c.read.new.into = rw c.in-Ok-Bytes.field-0-is at c.in-Ok-Bytes.ensures.bound in
-    let stays : loses_driver c.comes-outcome.result ≡ false = sym c.loses_driver.ensures ∙ c.if-loses_driver.false in
+    let stays : loses_driver c.comes-outcome.result ≡ false = sym c.loses_driver.ensures ∙
+    c.if-loses_driver.false in
     row g.S.Sockets.told g.R.Record.holds (Read (Driver c.args.u)) (gave front)
     (reads (Driver c.args.u) DRIVER_READ_LIMIT) (DriverBytes c.args.u front ∷ []) c.args.self.now
     c.comes-outcome.new.self c.read.new.self

@@ -12,7 +12,6 @@ invariant_of-result c =
     rw c.new.ensures (record { name = c.as_bytes.ensures.lawful; description = tt }) in
     rw one (record {
       by_name = rising_one (λ (ups : Ups). ups.name) c.new.result;
-      few =
-          omega arith;
+      few = omega arith;
       lawful = All-cons IsLawfulUps c.new.result [] lawful (All-nil IsLawfulUps);
     })

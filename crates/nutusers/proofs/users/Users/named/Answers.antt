@@ -11,7 +11,8 @@ pub returns-in_err-place : goal.returns-in_err-place
 returns-in_err-place c =
     let is = searched (λ (user : User). user.name) c.args.name.now c.self.inside.users.items (new_user [])
     c.binary_search_by.result c.self.invariant (rw c.deref.ensures.value at c.binary_search_by.ensures.bound)
-    (rw c.deref.ensures.value at c.binary_search_by.ensures.position (λ (user : User). byte_order user.name c.args.name.now)
+    (rw c.deref.ensures.value at c.binary_search_by.ensures.position
+    (λ (user : User). byte_order user.name c.args.name.now)
     (always_returns_same _ _ _ (λ a r f called. search rules))) in
     grind (arith, common_steps, is)
 
@@ -19,6 +20,7 @@ pub returns : goal.returns
 returns c =
     let is = searched (λ (user : User). user.name) c.args.name.now c.self.inside.users.items c.index.result.now
     c.binary_search_by.result c.self.invariant (rw c.deref.ensures.value at c.binary_search_by.ensures.bound)
-    (rw c.deref.ensures.value at c.binary_search_by.ensures.position (λ (user : User). byte_order user.name c.args.name.now)
+    (rw c.deref.ensures.value at c.binary_search_by.ensures.position
+    (λ (user : User). byte_order user.name c.args.name.now)
     (always_returns_same _ _ _ (λ a r f called. search rules))) in
     grind (arith, common_steps, is)
