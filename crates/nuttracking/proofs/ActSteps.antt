@@ -10,7 +10,7 @@ use Rattle.std.specs.List.{find}
 use Rattle.std.specs.Option.{option_map}
 use Rattle.circular_buffer.specs.Buffer.{keep_last}
 use Rattle.nuttracking.proofs.Counts.{one_if, order_ids, times_cons, times_append, one_if_same}
-use Rattle.nuttracking.proofs.KeptSound.{either, sound_with_id, sound_with_order, sound_with_report, kept_all}
+use Rattle.nuttracking.proofs.KeptSound.{sound_with_id, sound_with_order, sound_with_report, kept_all}
 use Rattle.nuttracking.specs.Acts.{Act, Given, after_act, after_acts, taken_by, given_by, given, first_report}
 use Rattle.nuttracking.specs.Acts.Act.{handed_in, ordered, reported}
 use Rattle.nuttracking.specs.Laws.{as_given}
@@ -22,6 +22,7 @@ use Rattle.nuttracking.specs.declared.limits.TheConstants.{ID_LIMIT, ORDER_LIMIT
 use Rattle.nuttracking.specs.declared.order.Progress.{Progress}
 use Rattle.nuttracking.specs.declared.order.Progress.TheVariants.{Pending, Done}
 use Rattle.nuttracking.specs.declared.order.TrackedOrder.{TrackedOrder}
+use Rattle.std.proofs.lemmas.Bool.{cases_Bool}
 
 -- ---- an id is handed in
 
@@ -32,11 +33,11 @@ pub less_than : (a b : ℕ) → nat_lt a b ≡ true → a < b
 less_than a b e = grind (arith, nat_tests)
 
 sound_handed_in : (t : TrackingState) (id : ℕ) → IsSoundTracking t → IsSoundTracking (with_id id t)
-sound_handed_in t id s = elim (either (is_known id t)) [
+sound_handed_in t id s = elim (cases_Bool (is_known id t)) [
   | inl known ↦ rw known s
-  | inr unknown ↦ elim (either (nat_le ID_LIMIT (length t.ids))) [
+  | inr unknown ↦ elim (cases_Bool (nat_le ID_LIMIT (length t.ids))) [
     | inl full ↦ rw (unknown, full) s
-    | inr room ↦ elim (either (nat_lt id (2 ^ 128))) [
+    | inr room ↦ elim (cases_Bool (nat_lt id (2 ^ 128))) [
       | inl small ↦ rw (unknown, room, small)
           (sound_with_id t id s unknown (more_than ID_LIMIT (length t.ids) room) (less_than id (2 ^ 128) small))
       | inr wide ↦ rw (unknown, room, wide) s
@@ -45,13 +46,13 @@ sound_handed_in t id s = elim (either (is_known id t)) [
 ]
 
 ids_handed_in : (t : TrackingState) (id : ℕ) → (with_id id t).ids ≡ t.ids ++ taken_by t (handed_in id)
-ids_handed_in t id = elim (either (is_taken_in id t)) [
+ids_handed_in t id = elim (cases_Bool (is_taken_in id t)) [
   | inl taken ↦ rw taken refl
   | inr refused ↦ rw refused (sym (append-nil t.ids))
 ]
 
 pub orders_handed_in : (t : TrackingState) (id : ℕ) → (with_id id t).orders ≡ t.orders
-orders_handed_in t id = elim (either (is_taken_in id t)) [
+orders_handed_in t id = elim (cases_Bool (is_taken_in id t)) [
   | inl taken ↦ rw taken refl
   | inr refused ↦ rw refused refl
 ]
@@ -103,7 +104,7 @@ orders_ordered place (id ∷ rest) orders h =
 
 settled_given : (place id number : ℕ) (order : TrackedOrder) →
     as_given (settled place id number order) ≡ as_given order
-settled_given place id number order = elim (either (awaits place id order)) [
+settled_given place id number order = elim (cases_Bool (awaits place id order)) [
   | inl is ↦ rw is refl
   | inr not ↦ rw not refl
 ]
@@ -172,7 +173,7 @@ found_in : (id : ℕ) (front back : List TrackedOrder) (order : TrackedOrder) �
     id → times id (order_ids (front ++ order ∷ back)) ≤ 1
     → find (has_id id) (front ++ order ∷ back) ≡ Some order
 found_in id [] back order e once = rw (is_same order.id id e) refl
-found_in id (x ∷ front) back order e once = elim (either (x.id == id)) [
+found_in id (x ∷ front) back order e once = elim (cases_Bool (x.id == id)) [
   | inl is ↦
       let one : one_if id x.id ≡ 1 = rw is refl in
       absurd (omega (arith, times_cons id x.id (order_ids (front ++ order ∷ back)), stands_in id front back order e))
@@ -231,15 +232,15 @@ record Reported (place id from other number : ℕ) (p : Progress) (later : List 
 
 a_report : (place id from other number : ℕ) (p : Progress) (later : List Act) →
     Reported place id from other number p later
-a_report place id from other number (Done n) later = elim (either (id == other)) [
-  | inl a ↦ elim (either (place == from)) [
+a_report place id from other number (Done n) later = elim (cases_Bool (id == other)) [
+  | inl a ↦ elim (cases_Bool (place == from)) [
     | inl b ↦ record { now = Done n; is = rw (a, b) refl; says = refl }
     | inr b ↦ record { now = Done n; is = rw (a, b) refl; says = refl }
   ]
   | inr a ↦ record { now = Done n; is = rw a refl; says = refl }
 ]
-a_report place id from other number Pending later = elim (either (id == other)) [
-  | inl a ↦ elim (either (place == from)) [
+a_report place id from other number Pending later = elim (cases_Bool (id == other)) [
+  | inl a ↦ elim (cases_Bool (place == from)) [
     | inl b ↦ record { now = Done number; is = rw (a, b) refl; says = rw (a, b) refl }
     | inr b ↦ record { now = Pending; is = rw (a, b) refl; says = rw (a, b) refl }
   ]

@@ -26,7 +26,8 @@ use Rattle.nuttracking.specs.declared.order.Progress.TheVariants.{Pending}
 use Rattle.nuttracking.proofs.ActSteps.{less_than, sound_after_act, id_step, order_step, map_append}
 use Rattle.nuttracking.proofs.ActSteps.{all_kept, keep_keep, dropped_front, orders_after}
 use Rattle.nuttracking.proofs.ActSteps.{orders_handed_in, settles}
-use Rattle.nuttracking.proofs.KeptSound.{either, not_below, lawful_with_order, lawful_settled}
+use Rattle.nuttracking.proofs.KeptSound.{not_below, lawful_with_order, lawful_settled}
+use Rattle.std.proofs.lemmas.Bool.{cases_Bool}
 
 -- ids_are_read_back
 pub is_read : (text : List ℕ) (n : ℕ) (b : Bool) →
@@ -76,7 +77,7 @@ acts_keep_it_sound t [] s = s
 acts_keep_it_sound t (act ∷ acts) s = acts_keep_it_sound (after_act t act) acts (sound_after_act t act s)
 
 small_known : (t : TrackingState) (id : ℕ) → IsSoundTracking t → 1 ≤ times id (known_ids t) → id < 2 ^ 128
-small_known t id s known = elim (either (nat_lt id (2 ^ 128))) [
+small_known t id s known = elim (cases_Bool (nat_lt id (2 ^ 128))) [
   | inl small ↦ less_than id (2 ^ 128) small
   | inr wide ↦ absurd (let none = s.small id (not_below id (2 ^ 128) wide) in omega arith)
 ]
