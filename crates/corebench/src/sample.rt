@@ -1,15 +1,14 @@
 //! A server whose UPS has thousands of variables.
 use anyhow::{Error, Result};
-use nutcore::{ClientId, Descriptions, Fault, MaxAge, Server, UpsId, UpsList, Users};
+use nutcore::{
+    ClientId, DRIVER_READ_LIMIT, Descriptions, Fault, MaxAge, Server, UpsId, UpsList, Users,
+};
 use nutwords::{Address, UpsName, VALUE_LIMIT};
 use std::alloc::Global;
 use std::fmt::Write;
 
 /// The only UPS.
 pub const SU: UpsId = UpsId { place: 0 };
-
-/// How many bytes a server reads of a driver at a time.
-const DRIVER_READ: usize = 512;
 
 /// How many bytes a line of a driver has beside its value.
 const AROUND_A_VALUE: usize = 17;
@@ -151,8 +150,11 @@ impl Sample {
     /// A driver reports its variables again, and this is what one read of it gives. Reads go round
     /// all lines.
     pub fn report_a_read(&mut self, number: usize) -> Result<(), Fault> {
-        let reads = self.lines.len() / DRIVER_READ;
-        let read = self.lines.chunks(DRIVER_READ).nth(number % reads.max(1));
+        let reads = self.lines.len() / DRIVER_READ_LIMIT;
+        let read = self
+            .lines
+            .chunks(DRIVER_READ_LIMIT)
+            .nth(number % reads.max(1));
         if let Some(piece) = read {
             self.server.driver_bytes(SU, piece)?;
         }

@@ -1,15 +1,12 @@
 //! Turns: in each, one event does a full read of one line.
 use crate::sample::Sample;
 use anyhow::Result;
-use nutcore::{ClientId, Fault};
+use nutcore::{ClientId, DRIVER_READ_LIMIT, Fault};
 use std::alloc::Global;
 use std::fmt::Write;
 
 /// How many bytes a server reads of a client at a time.
 const CLIENT_READ: usize = 2048;
-
-/// How many bytes it reads of a driver.
-const DRIVER_READ: usize = 512;
 
 /// How long values are, in bytes.
 const WIDTH: usize = 10;
@@ -40,7 +37,7 @@ pub fn print_turns(
         let text = format!(in alloc; "{line}\n")?;
         let most = match sender {
             Sender::Client => CLIENT_READ,
-            _ => DRIVER_READ,
+            _ => DRIVER_READ_LIMIT,
         };
         let times = most / text.len().max(1);
         let read = text.repeat(alloc, times)?;

@@ -27,7 +27,7 @@ use Rattle.nutcore.specs.Ups.{UpsState, after_loss, after_text, after_texts, wit
 use Rattle.nutcore.specs.Ups.{is_refused, with_faulty_line}
 use Rattle.nutcore.specs.Ups.{ups_after_text}
 use Rattle.nutcore.specs.Notes.{fault_of, shown_of, status_note, data_note, status_of, data_state_of}
-use Rattle.nutcore.specs.Notes.{line_notes, texts_notes, loss_notes, is_lost_by, text_notes}
+use Rattle.nutcore.specs.Notes.{end_note, line_notes, texts_notes, loss_notes, is_lost_by, text_notes}
 use Rattle.nutcore.specs.Step.{refused_after}
 use Rattle.nutcore.specs.Calls.{done}
 use Rattle.nutcore.specs.Promises.{with_note, DoesLine, IsApplied, LacksMemory, IsAnswered, Reports}
@@ -101,7 +101,7 @@ pub does_line : (a m : ℕ) (u : UpsId) (line : List ℕ) (x : UpsState) (t : Tr
     t' ≡ with_end u.place (reported_end o) t
     → y ≡ cond b (with_faulty_line z) z → length n ≤ NOTE_LIMIT → n1 ≡
     with_note (status_note u (status_of x) (status_of z)) n
-    → n2 ≡ with_note (cond b (Some (LineRefused u (fault_of o) (shown_of line))) None) n1 → n3 ≡
+    → n2 ≡ with_note (cond b (Some (LineRefused u (fault_of o) (shown_of line))) (end_note u o)) n1 → n3 ≡
     with_note (data_note u (data_state_of a m x) (data_state_of a m y)) n2
     → DoesLine a m u line x t n (with_unfinished [] y) t' n3
 does_line a m u line x t n o z b y t' n1 n2 n3 applied refused settled left room one two three =
@@ -119,7 +119,7 @@ does_line a m u line x t n o z b y t' n1 n2 n3 applied refused settled left room
     rw after (cond_both b (with_faulty_line v) v (λ (q : UpsState). status_of q ≡ status_of z)
     (λ e. refl) (λ e. refl)) in
     let s1 : Option Note = status_note u (status_of x) (status_of z) in
-    let s2 : Option Note = cond b (Some (LineRefused u (fault_of o) (shown_of line))) None in
+    let s2 : Option Note = cond b (Some (LineRefused u (fault_of o) (shown_of line))) (end_note u o) in
     let s3 : Option Note = data_note u (data_state_of a m x) (data_state_of a m y) in
     let datum : data_state_of a m (after_text m unawaited x line) ≡ data_state_of a m y =
     sym (ap (data_state_of a m) is) in

@@ -23,7 +23,7 @@ use Rattle.nutcore.specs.Ups.{UpsState, as_far, after_text, after_texts}
 use Rattle.nutcore.specs.Step.{refused_after}
 use Rattle.nutcore.specs.History.{Execution, executions_by}
 use Rattle.nutcore.specs.Notes.{note_of, notes_of_lines, logout_of, data_state_of}
-use Rattle.nutcore.specs.Notes.{status_of, refusal_note, status_note, data_note, line_notes, texts_notes, loss_notes}
+use Rattle.nutcore.specs.Notes.{status_of, outcome_note, status_note, data_note, line_notes, texts_notes, loss_notes}
 use Rattle.nutcore.specs.Notes.{is_lost_by, text_notes, connect_notes, bytes_notes, down_notes, of_ups_notes, tick_note}
 use Rattle.nutcore.specs.Notes.{tick_notes, all_notes, IsReadAtOnce, NoNoteIsCut}
 use Rattle.nutcore.specs.Sound.{IsSoundUps, IsSound}
@@ -58,7 +58,7 @@ texts_few a m u t (line ∷ lines) x =
       arith,
       length-append (line_notes a m u b x line) (texts_notes a m u next lines y),
       three_at_most (status_note u (status_of x) (status_of y))
-          (refusal_note u b (after_line m x.report line).1 line)
+          (outcome_note u b (after_line m x.report line).1 line)
           (data_note u (data_state_of a m x) (data_state_of a m y)),
       texts_few a m u next lines y,
     )

@@ -20,7 +20,7 @@ use Rattle.nutcore.proofs.Common.{ServerState, session, ups_at}
 use Rattle.nutcore.specs.declared.note.DataState.{DataState}
 use Rattle.nutcore.specs.declared.note.DataState.TheVariants as states
 use Rattle.nutcore.specs.declared.note.Note.{Note}
-use Rattle.nutcore.specs.declared.note.Note.TheVariants.{Data, StatusChanged, LineRefused, LoggedIn, LoggedOut, Did}
+use Rattle.nutcore.specs.declared.note.Note.TheVariants.{Data, StatusChanged, LineRefused, OrderEnded, LoggedIn, LoggedOut, Did}
 use Rattle.nutcore.specs.declared.note.Deed.{Deed}
 use Rattle.nutcore.specs.declared.note.TheConstants.{SHOWN_LIMIT}
 use Rattle.nutcore.specs.History.{Execution, of_line, of_notice, client_of}
@@ -31,8 +31,9 @@ use Rattle.nutdriver.specs.Report.{after_line, end_in}
 use Rattle.nutcore.specs.Reports.{with_end, is_unawaited}
 use Rattle.nutcore.specs.Ups.{is_refused, as_far, after_text, after_texts}
 use Rattle.nutcore.specs.Notes.{who_of, logout_of, deed_of, note_read, note_of, data_state_of}
-use Rattle.nutcore.specs.Notes.{status_of, fault_of, shown_of}
-use Rattle.nutcore.specs.Notes.{refusal_note, status_note, data_note, line_notes, texts_notes, loss_notes, is_lost_by}
+use Rattle.nutcore.specs.Notes.{status_of, fault_of, shown_of, end_note}
+use Rattle.nutdriver.specs.declared.report.LineOutcome.TheVariants.{Accepted, Tracked, Refused}
+use Rattle.nutcore.specs.Notes.{outcome_note, status_note, data_note, line_notes, texts_notes, loss_notes, is_lost_by}
 use Rattle.nutcore.specs.Notes.{text_notes, connect_notes, bytes_notes, down_notes, of_ups_notes, tick_note, tick_notes}
 use Rattle.nutcore.specs.NotedRuns.{Leads}
 
@@ -65,6 +66,15 @@ pub record IsBlind {X : Type 0} (f : Note → Option X) (v : UpsId) : Type 0 whe
   pub status : (status : Option (List ℕ)) → f (StatusChanged v status) ≡ None
   pub refused : (fault : Option DriverFault) (shown : Option (ArrayVec ℕ SHOWN_LIMIT (Unit {0}))) →
       f (LineRefused v fault shown) ≡ None
+  pub ended : (id number : ℕ) → f (OrderEnded v id number) ≡ None
+
+-- of no end of an order
+pub endless : {X : Type 0} (f : Note → Option X) (v : UpsId)
+    → ((id number : ℕ) → f (OrderEnded v id number) ≡ None)
+    → (o : LineOutcome) → option_and_then f (end_note v o) ≡ None
+endless f v none Accepted = refl
+endless f v none (Tracked id number) = none id number
+endless f v none (Refused fault) = refl
 
 module _ {X : Type 0} (f : Note → Option X) (v : UpsId) (blind : IsBlind f v) where
   pub blind_data : (was is : DataState) → option_and_then f (data_note v was is) ≡ None
@@ -72,9 +82,10 @@ module _ {X : Type 0} (f : Note → Option X) (v : UpsId) (blind : IsBlind f v) 
       [ inl same ↦ rw same.0 refl | inr told ↦ rw told.0 (blind.state is) ]
 
   pub blind_refused : (b : Bool) (o : LineOutcome) (line : List ℕ) →
-      option_and_then f (refusal_note v b o line) ≡ None
-  blind_refused b o line = cond_both (is_refused b o) (Some (LineRefused v (fault_of o) (shown_of line))) None
-      (λ n. option_and_then f n ≡ None) (λ e. blind.refused (fault_of o) (shown_of line)) (λ e. refl)
+      option_and_then f (outcome_note v b o line) ≡ None
+  blind_refused b o line = cond_both (is_refused b o) (Some (LineRefused v (fault_of o) (shown_of line)))
+      (end_note v o) (λ n. option_and_then f n ≡ None) (λ e. blind.refused (fault_of o) (shown_of line))
+      (λ e. endless f v blind.ended o)
 
   pub blind_status : (was is : Option (List ℕ)) → option_and_then f (status_note v was is) ≡ None
   blind_status None None = refl
@@ -89,7 +100,7 @@ module _ {X : Type 0} (f : Note → Option X) (v : UpsId) (blind : IsBlind f v) 
   blind_line a m b x line =
       let y : UpsState = after_text m b x line in
       skip f (status_note v (status_of x) (status_of y)) _ (blind_status (status_of x) (status_of y))
-      ∙ skip f (refusal_note v b (after_line m x.report line).1 line) _
+      ∙ skip f (outcome_note v b (after_line m x.report line).1 line) _
       (blind_refused b (after_line m x.report line).1 line)
       ∙ skip f (data_note v (data_state_of a m x) (data_state_of a m y)) []
       (blind_data (data_state_of a m x) (data_state_of a m y))
@@ -168,14 +179,14 @@ deaf_close f deaf (Some x) = skip f (logout_of x) [] (deaf x)
 -- what reads no deed
 pub deaf_deed : {X : Type 0} (f : Note → Option X) →
     ((deed : Deed) → f (Did deed) ≡ None) →
-    (x : SessionState) (refusal : Option ErrWord) (read : Result (Option Command) ErrWord)
-    → option_and_then f (deed_of x refusal read) ≡ None
-deaf_deed f does x refusal (Ok (Some (Login ups))) = does _
-deaf_deed f does x refusal (Ok (Some (Primary ups))) = does _
-deaf_deed f does x refusal (Ok (Some (Fsd ups))) = does _
-deaf_deed f does x refusal (Ok (Some (SetVar ups name value))) = does _
-deaf_deed f does x refusal (Ok (Some (InstCmd ups name value))) = does _
-deaf_deed f does x refusal read = refl
+    (x : SessionState) (refusal : Option ErrWord) (id : Option ℕ) (read : Result (Option Command) ErrWord)
+    → option_and_then f (deed_of x refusal id read) ≡ None
+deaf_deed f does x refusal id (Ok (Some (Login ups))) = does _
+deaf_deed f does x refusal id (Ok (Some (Primary ups))) = does _
+deaf_deed f does x refusal id (Ok (Some (Fsd ups))) = does _
+deaf_deed f does x refusal id (Ok (Some (SetVar ups name value))) = does _
+deaf_deed f does x refusal id (Ok (Some (InstCmd ups name value))) = does _
+deaf_deed f does x refusal id read = refl
 
 -- what reads nothing of a session
 pub record IsDeaf {X : Type 0} (f : Note → Option X) (x : SessionState) : Type 0 where
@@ -193,12 +204,12 @@ module _ {X : Type 0} (f : Note → Option X) (x : SessionState) (deaf : IsDeaf 
 
   deaf_read : (read : Result (Option Command) ErrWord) (refusal : Option ErrWord) (change : Change)
       → option_and_then f (note_read x read refusal change) ≡ None
-  deaf_read read (Some word) change = deaf_deed f deaf.does x (Some word) read
+  deaf_read read (Some word) change = deaf_deed f deaf.does x (Some word) None read
   deaf_read read None (changes.Login u) = deaf.logs_in u
   deaf_read read None changes.Ending = deaf_logout
-  deaf_read read None (changes.Fsd u) = deaf_deed f deaf.does x None read
-  deaf_read read None (changes.Order u line) = deaf_deed f deaf.does x None read
-  deaf_read read None (changes.Tracked u id line) = deaf_deed f deaf.does x None read
+  deaf_read read None (changes.Fsd u) = deaf_deed f deaf.does x None None read
+  deaf_read read None (changes.Order u line) = deaf_deed f deaf.does x None None read
+  deaf_read read None (changes.Tracked u id line) = deaf_deed f deaf.does x None (Some id) read
   deaf_read read None change = refl
 
 -- reads nothing of what is executed for it

@@ -103,29 +103,29 @@ module _ (c : ℕ) (s : ServerState) (x y : SessionState) (its : eqb x.id c ≡ 
   Ends refusal change = Leads x.login
       (filter_map (login_in c) (cons_option (note_read x read refusal change) [])) (changed_session change y).login
 
-  deed : (refusal : Option ErrWord) →
-      Leads x.login (filter_map (login_in c) (cons_option (deed_of x refusal read) [])) y.login
-  deed refusal = leads_nowhere x.login y.login _
-      (skip (login_in c) (deed_of x refusal read) [] (deaf_deed (login_in c) (λ deed. refl) x refusal read)) same
+  deed : (refusal : Option ErrWord) (id : Option ℕ) →
+      Leads x.login (filter_map (login_in c) (cons_option (deed_of x refusal id read) [])) y.login
+  deed refusal id = leads_nowhere x.login y.login _
+      (skip (login_in c) (deed_of x refusal id read) [] (deaf_deed (login_in c) (λ deed. refl) x refusal id read)) same
 
   of_change : (change : Change) →
       ((u : UpsId) → change ≡ changes.Login u → x.login ≡ None) → Ends None change
   of_change (changes.Login u) fresh = rw (its, fresh u refl) (λ e. cc e, refl)
   of_change changes.Ending fresh = out_by c x x.login its
-  of_change (changes.Fsd u) fresh = deed None
-  of_change (changes.Order u line) fresh = deed None
-  of_change (changes.Tracked u id line) fresh = deed None
+  of_change (changes.Fsd u) fresh = deed None None
+  of_change (changes.Order u line) fresh = deed None None
+  of_change (changes.Tracked u id line) fresh = deed None (Some id)
   of_change change fresh = same
 
   of_answer : (command : Command) (a : Result Answer ErrWord) →
       ComesOf (seen s) (asker c s) command (change_of_answer a) → Ends (result_err a) (change_of_answer a)
-  of_answer command (Err word) row = deed (Some word)
+  of_answer command (Err word) row = deed (Some word) None
   of_answer command (Ok answer) row = of_change (change_of_answer (Ok answer)) (λ u is.
       let fresh = (subst (ComesOf (seen s) (asker c s) command) is row).fresh in
       ap (λ (o : Option SessionState). (asker_of o).login) (sym found) ∙ fresh)
 
   of_read : (r : Result (Option Command) ErrWord) → Ends (refusal_by s c r) (change_by s c r)
-  of_read (Err word) = deed (Some word)
+  of_read (Err word) = deed (Some word) None
   of_read (Ok None) = same
   of_read (Ok (Some command)) = of_answer command (answer_to (seen s) (asker c s) command)
       (each_change_comes_of_its_command (seen s) (asker c s) command)
@@ -183,7 +183,7 @@ if_done c s t xs false logs = refl
 
 -- in each event
 blind : (c : ℕ) (v : UpsId) → IsBlind (login_in c) v
-blind c v = record { state = λ state. refl; status = λ status. refl; refused = λ fault shown. refl }
+blind c v = record { state = λ state. refl; status = λ status. refl; refused = λ fault shown. refl; ended = λ id number. refl }
 
 pub event_logs : (c : ℕ) (s : ServerState) (e : Event) (o : Outcome) →
     Logs c s (all_notes s e (refused_after o)) (after s e o)

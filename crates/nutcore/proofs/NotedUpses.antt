@@ -39,7 +39,7 @@ use Rattle.nutcore.specs.DriverHistory.{heard_at, heard_in_event}
 use Rattle.nutcore.specs.DriverRuns.{report_of}
 use Rattle.nutcore.specs.Sound.{IsSoundUps, IsSound}
 use Rattle.nutcore.specs.Notes.{who_of, logout_of, note_of, notes_of_lines}
-use Rattle.nutcore.specs.Notes.{data_state_of, status_of, fault_of, refusal_note, shown_of, status_note, data_note}
+use Rattle.nutcore.specs.Notes.{data_state_of, status_of, fault_of, outcome_note, end_note, shown_of, status_note, data_note}
 use Rattle.nutcore.specs.Notes.{line_notes, texts_notes, loss_notes, is_lost_by, text_notes, connect_notes, bytes_notes}
 use Rattle.nutcore.specs.Notes.{down_notes, of_ups_notes, tick_note, tick_notes, all_notes}
 use Rattle.nutcore.specs.NotedRuns.{Leads, data_in, status_in, fault_in, faults_among}
@@ -47,7 +47,7 @@ use Rattle.nutcore.proofs.Changed.{of_opened}
 use Rattle.nutcore.proofs.DriverChanges.{line_leaves}
 use Rattle.nutcore.proofs.DriverText.{bytes_change}
 use Rattle.nutcore.proofs.Isolation.{masked_at, own}
-use Rattle.nutcore.proofs.Noted.{leads_on, leads_nowhere, skip, noted_or_same, IsBlind, blind_data}
+use Rattle.nutcore.proofs.Noted.{leads_on, leads_nowhere, skip, noted_or_same, endless, IsBlind, blind_data}
 use Rattle.nutcore.proofs.Noted.{ups_up, ups_bytes, ups_down, deaf_close, IsDeaf, deaf_logout, deaf_execution}
 use Rattle.nutcore.proofs.SoundUps.{each_get, heard_line}
 use Rattle.nutcore.proofs.UpsPlaces.{same_ups, changed_there, other_ups}
@@ -319,9 +319,10 @@ module _ (u : UpsId) where
   ]
 
   no_data_refused : (b : Bool) (o : LineOutcome) (line : List ℕ) →
-      option_and_then (data_in u) (refusal_note u b o line) ≡ None
-  no_data_refused b o line = cond_both (is_refused b o) (Some (LineRefused u (fault_of o) (shown_of line))) None
-      (λ n. option_and_then (data_in u) n ≡ None) (λ e. refl) (λ e. refl)
+      option_and_then (data_in u) (outcome_note u b o line) ≡ None
+  no_data_refused b o line = cond_both (is_refused b o) (Some (LineRefused u (fault_of o) (shown_of line)))
+      (end_note u o) (λ n. option_and_then (data_in u) n ≡ None) (λ e. refl)
+      (λ e. endless (data_in u) u (λ id number. refl) o)
 
   no_data_status : (was is : Option (List ℕ)) → option_and_then (data_in u) (status_note u was is) ≡ None
   no_data_status was is = grind arith
@@ -343,7 +344,7 @@ module _ (u : UpsId) where
         rw (
           skip (data_in u) (status_note u (status_of x) (status_of y)) _
               (no_data_status (status_of x) (status_of y)),
-          skip (data_in u) (refusal_note u b (after_line m x.report line).1 line)
+          skip (data_in u) (outcome_note u b (after_line m x.report line).1 line)
               (cons_option (data_note u (data_state_of a m x) (data_state_of a m y)) [])
               (no_data_refused b (after_line m x.report line).1 line),
         )
@@ -361,6 +362,7 @@ module _ (u : UpsId) where
       state = λ state. rw other refl;
       status = λ status. refl;
       refused = λ fault shown. refl;
+      ended = λ id number. refl;
     };
     clients = record { into = λ v who. refl; out = λ v who. refl; did = λ deed. refl };
     masked = λ a m x. refl;
@@ -387,9 +389,10 @@ module _ (u : UpsId) where
   ]
 
   no_status_refused : (b : Bool) (o : LineOutcome) (line : List ℕ) →
-      option_and_then (status_in u) (refusal_note u b o line) ≡ None
-  no_status_refused b o line = cond_both (is_refused b o) (Some (LineRefused u (fault_of o) (shown_of line))) None
-      (λ n. option_and_then (status_in u) n ≡ None) (λ e. refl) (λ e. refl)
+      option_and_then (status_in u) (outcome_note u b o line) ≡ None
+  no_status_refused b o line = cond_both (is_refused b o) (Some (LineRefused u (fault_of o) (shown_of line)))
+      (end_note u o) (λ n. option_and_then (status_in u) n ≡ None) (λ e. refl)
+      (λ e. endless (status_in u) u (λ id number. refl) o)
 
   no_status_data : (was is : DataState) → option_and_then (status_in u) (data_note u was is) ≡ None
   no_status_data was is = elim (noted_or_same u was is)
@@ -413,7 +416,7 @@ module _ (u : UpsId) where
     line = λ a m b x line.
         let y : UpsState = after_text m b x line in
         rw (alone (status_note u (status_of x) (status_of y)) _
-        (skip (status_in u) (refusal_note u b (after_line m x.report line).1 line) _
+        (skip (status_in u) (outcome_note u b (after_line m x.report line).1 line) _
         (no_status_refused b (after_line m x.report line).1 line) ∙
         skip (status_in u) (data_note u (data_state_of a m x) (data_state_of a m y)) []
         (no_status_data (data_state_of a m x) (data_state_of a m y))))
@@ -427,6 +430,7 @@ module _ (u : UpsId) where
       state = λ state. refl;
       status = λ status. rw other refl;
       refused = λ fault shown. refl;
+      ended = λ id number. refl;
     };
     clients = record { into = λ v who. refl; out = λ v who. refl; did = λ deed. refl };
     masked = λ a m x. refl;
@@ -444,10 +448,12 @@ module _ (u : UpsId) where
   fault_status v was is = grind arith
 
   refused : (b : Bool) (o : LineOutcome) (line : List ℕ) →
-      filter_map (fault_in u) (cons_option (refusal_note u b o line) []) ≡
+      filter_map (fault_in u) (cons_option (outcome_note u b o line) []) ≡
       cons_option (cond (is_refused b o) (Some (fault_of o)) None) []
-  refused b o line = elim (cases_Bool (is_refused b o))
-      [ inl k ↦ rw (k, eq-eqb u.place u.place refl) refl | inr k ↦ rw k refl ]
+  refused b o line = elim (cases_Bool (is_refused b o)) [
+    | inl k ↦ rw (k, eq-eqb u.place u.place refl) refl
+    | inr k ↦ rw k (skip (fault_in u) (end_note u o) [] (endless (fault_in u) u (λ id number. refl) o))
+  ]
 
   then_none : (o : Option Note) (notes : List Note) → filter_map (fault_in u) notes ≡ [] →
       filter_map (fault_in u) (cons_option o notes) ≡ filter_map (fault_in u) (cons_option o [])
@@ -461,7 +467,7 @@ module _ (u : UpsId) where
       let r = after_line m x.report line in
       let y : UpsState = after_text m b x line in
       skip (fault_in u) (status_note u (status_of x) (status_of y)) _ (fault_status u (status_of x) (status_of y))
-      ∙ then_none (refusal_note u b r.1 line) _
+      ∙ then_none (outcome_note u b r.1 line) _
       (skip (fault_in u) (data_note u (data_state_of a m x) (data_state_of a m y)) []
       (fault_data u (data_state_of a m x) (data_state_of a m y)))
       ∙ refused b r.1 line
@@ -505,6 +511,7 @@ module _ (u : UpsId) where
     state = λ state. refl;
     status = λ status. refl;
     refused = λ fault shown. rw other refl;
+    ended = λ id number. refl;
   }
 
   -- nor is a line refused where a driver connects or is lost, or where the clock goes on

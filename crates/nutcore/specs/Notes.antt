@@ -34,7 +34,7 @@ use Rattle.nuttracking.specs.Tracking.{TrackingState}
 use Rattle.nutwords.specs.WholeLines.{whole_lines, unfinished_after, is_too_long}
 use Rattle.nutdriver.specs.declared.fault.DriverFault.{DriverFault}
 use Rattle.nutdriver.specs.declared.report.LineOutcome.{LineOutcome}
-use Rattle.nutdriver.specs.declared.report.LineOutcome.TheVariants.{Refused}
+use Rattle.nutdriver.specs.declared.report.LineOutcome.TheVariants.{Refused, Tracked}
 use Rattle.nutdriver.specs.Report.{after_line, end_in}
 use Rattle.nutcore.specs.Session.{SessionState}
 use Rattle.nutcore.specs.Server.{ServerState, session}
@@ -57,10 +57,11 @@ abbrev pub is_empty_value : Option (Option (List ℕ)) → Bool
 is_empty_value (Some (Some [])) = true
 is_empty_value _ = false
 
--- What the session did by a command that was refused by this word, or granted,
-abbrev pub did : SessionState → Option ErrWord → Verb → Option (List ℕ) → Option (List ℕ) → Bool
-    → Option Note
-did x refusal verb ups name has_empty_value =
+-- What the session did by a command that was refused by this word, or granted, and is tracked by
+-- this id or isn't,
+abbrev pub did : SessionState → Option ErrWord → Option ℕ → Verb → Option (List ℕ)
+    → Option (List ℕ) → Bool → Option Note
+did x refusal tracking_id verb ups name has_empty_value =
     Some
     (note_kinds.Did (record {
       who = who_of x;
@@ -69,32 +70,35 @@ did x refusal verb ups name has_empty_value =
       name = name;
       has_empty_value = has_empty_value;
       refusal = refusal;
+      tracking_id = tracking_id;
     }))
 
 -- where its line was read as a command of which that is noted.
-abbrev pub deed_of : SessionState → Option ErrWord → Result (Option Command) ErrWord → Option Note
-deed_of x refusal (Ok (Some (commands.Login ups))) = did x refusal verbs.Login ups None false
-deed_of x refusal (Ok (Some (commands.Primary ups))) = did x refusal verbs.Primary ups None false
-deed_of x refusal (Ok (Some (commands.Fsd ups))) = did x refusal verbs.Fsd ups None false
-deed_of x refusal (Ok (Some (commands.SetVar ups name value))) =
-    did x refusal verbs.SetVar ups name false
-deed_of x refusal (Ok (Some (commands.InstCmd ups name value))) =
-    did x refusal verbs.InstCmd ups name (is_empty_value value)
-deed_of x refusal _ = None
+abbrev pub deed_of : SessionState → Option ErrWord → Option ℕ → Result (Option Command) ErrWord
+    → Option Note
+deed_of x refusal id (Ok (Some (commands.Login ups))) = did x refusal id verbs.Login ups None false
+deed_of x refusal id (Ok (Some (commands.Primary ups))) =
+    did x refusal id verbs.Primary ups None false
+deed_of x refusal id (Ok (Some (commands.Fsd ups))) = did x refusal id verbs.Fsd ups None false
+deed_of x refusal id (Ok (Some (commands.SetVar ups name value))) =
+    did x refusal id verbs.SetVar ups name false
+deed_of x refusal id (Ok (Some (commands.InstCmd ups name value))) =
+    did x refusal id verbs.InstCmd ups name (is_empty_value value)
+deed_of x refusal id _ = None
 
 -- What is noted of a change that the session makes, by a line that was read so,
 abbrev pub note_of_change : SessionState → Result (Option Command) ErrWord → Change → Option Note
 note_of_change x read (changes.Login u) = Some (note_kinds.LoggedIn u (who_of x))
 note_of_change x read changes.Ending = logout_of x
-note_of_change x read (changes.Fsd u) = deed_of x None read
-note_of_change x read (changes.Order u line) = deed_of x None read
-note_of_change x read (changes.Tracked u id line) = deed_of x None read
+note_of_change x read (changes.Fsd u) = deed_of x None None read
+note_of_change x read (changes.Order u line) = deed_of x None None read
+note_of_change x read (changes.Tracked u id line) = deed_of x None (Some id) read
 note_of_change x read _ = None
 
 -- and of such a line, which is refused by this word, or makes this change.
 abbrev pub note_read : SessionState → Result (Option Command) ErrWord → Option ErrWord → Change
     → Option Note
-note_read x read (Some word) change = deed_of x (Some word) read
+note_read x read (Some word) change = deed_of x (Some word) None read
 note_read x read None change = note_of_change x read change
 
 -- What is noted of what was executed, on the server as it was at that moment. By the notice the
@@ -139,7 +143,8 @@ status_note u (Some was) (Some is) =
 status_note u _ is = Some (note_kinds.StatusChanged u is)
 
 -- and that a line of its driver is refused, for what: nothing where it reports on an order that
--- isn't awaited. Of a line that speaks of ups.status, or of an ALARM, its beginning is noted.
+-- isn't awaited. Of a line that speaks of ups.status, or of an ALARM, its beginning is noted. Of a
+-- line that reports on one that is awaited it is noted how that ended.
 abbrev pub has_word : List ℕ → List ℕ → Bool
 has_word word text =
     list_any (λ one. bytes_eq one word) (slice_split (λ b. nat_le b 32 || b == 34) text)
@@ -153,17 +158,21 @@ abbrev pub fault_of : LineOutcome → Option DriverFault
 fault_of (Refused fault) = Some fault
 fault_of _ = None
 
-abbrev pub refusal_note : UpsId → Bool → LineOutcome → List ℕ → Option Note
-refusal_note u unawaited outcome line =
+abbrev pub end_note : UpsId → LineOutcome → Option Note
+end_note u (Tracked id number) = Some (note_kinds.OrderEnded u id number)
+end_note u _ = None
+
+abbrev pub outcome_note : UpsId → Bool → LineOutcome → List ℕ → Option Note
+outcome_note u unawaited outcome line =
     if is_refused unawaited outcome
-    then Some (note_kinds.LineRefused u (fault_of outcome) (shown_of line)) else None
+    then Some (note_kinds.LineRefused u (fault_of outcome) (shown_of line)) else end_note u outcome
 
 -- What is noted of a whole line of its driver.
 abbrev pub line_notes : ℕ → ℕ → UpsId → Bool → UpsState → List ℕ → List Note
 line_notes max_age moment u unawaited x line =
     let y = after_text moment unawaited x line in
     cons_option (status_note u (status_of x) (status_of y))
-    (cons_option (refusal_note u unawaited (after_line moment x.report line).1 line)
+    (cons_option (outcome_note u unawaited (after_line moment x.report line).1 line)
     (cons_option
     (data_note u (data_state_of max_age moment x) (data_state_of max_age moment y)) []))
 

@@ -241,7 +241,7 @@ cost_beyond kept after = record { rendered = lines (drop kept after); placed = l
 
 -- what is noted of a line of the session that was read and answered so
 abbrev pub note_in_reply : SessionState → Result (Option Command) ErrWord → Reply → Option Note
-note_in_reply x read (Refused word) = deed_of x (Some word) read
+note_in_reply x read (Refused word) = deed_of x (Some word) None read
 note_in_reply x read (One text change) = note_of_change x read change
 note_in_reply x read (Many listing) = None
 note_in_reply x read (Clients name u) = None

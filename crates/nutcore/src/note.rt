@@ -30,6 +30,9 @@ pub enum Note {
     /// A line of the driver was refused, and why: none where it reported on an order that isn't
     /// awaited. Of a line that speaks of the status it has the beginning.
     LineRefused(UpsId, Option<DriverFault>, Option<ArrayVec<u8, SHOWN_LIMIT>>),
+    /// The driver reports how the order of this tracking id ended: 0 where it succeeded, else how
+    /// it failed.
+    OrderEnded(UpsId, u128, u32),
     /// A session has logged in to the UPS.
     LoggedIn(UpsId, Who),
     /// A session that is logged in to the UPS begins to end, or is closed.
@@ -113,6 +116,8 @@ pub struct Deed {
     pub has_empty_value: bool,
     /// Why the line was refused, if it was.
     pub refusal: Option<ErrWord>,
+    /// The id by which an order is tracked, if it is.
+    pub tracking_id: Option<u128>,
 }
 
 /// The notes of an event.

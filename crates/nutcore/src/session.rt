@@ -302,11 +302,14 @@ impl Session {
         ensures { notes.new ≡ with_note (note_in_reply self.now read.now reply.now) notes.old }
     {
         match reply {
-            Reply::Refused(word) => self.note_deed(read, Some(*word), notes),
+            Reply::Refused(word) => self.note_deed(read, Some(*word), None, notes),
             Reply::One(_, Change::Login(u)) => self.note_login(*u, notes),
             Reply::One(_, Change::Ending) => self.note_logout(notes),
-            Reply::One(_, Change::Fsd(_) | Change::Order(_, _) | Change::Tracked(_, _, _)) => {
-                self.note_deed(read, None, notes)
+            Reply::One(_, Change::Fsd(_) | Change::Order(_, _)) => {
+                self.note_deed(read, None, None, notes)
+            }
+            Reply::One(_, Change::Tracked(_, id, _)) => {
+                self.note_deed(read, None, Some(*id), notes)
             }
             _ => {}
         }
@@ -323,8 +326,14 @@ impl Session {
     /// Notes a line that was read so, and refused by this word, or granted, where it asked for what
     /// is noted.
     #[inline(never)]
-    fn note_deed(&self, read: &ReadLine<'_>, refusal: Option<ErrWord>, notes: &mut Notes)
-        ensures { notes.new ≡ with_note (deed_of self.now refusal read.now) notes.old }
+    fn note_deed(
+        &self,
+        read: &ReadLine<'_>,
+        refusal: Option<ErrWord>,
+        tracking_id: Option<u128>,
+        notes: &mut Notes,
+    )
+        ensures { notes.new ≡ with_note (deed_of self.now refusal tracking_id read.now) notes.old }
     {
         let (verb, ups, name, has_empty_value) = match read {
             Ok(Some(Command::Login(ups))) => (Verb::Login, ups, None, false),
@@ -343,6 +352,7 @@ impl Session {
             name: name.and_then(|name| name.read()),
             has_empty_value,
             refusal,
+            tracking_id,
         })))
     }
 

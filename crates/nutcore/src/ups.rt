@@ -4,7 +4,7 @@ ghost use Rattle.nuttracking.specs.Tracking.{TrackingState};
 ghost use Rattle.nutcore.specs.Ups.{new_ups, after_connecting, after_loss, after_tick, with_fsd, free_room, with_order, with_faulty_line, is_refused, UpsState};
 ghost use Rattle.nutcore.specs.Reports.{with_end, is_unawaited};
 ghost use Rattle.nutcore.specs.Due.{due_of, never};
-ghost use Rattle.nutcore.specs.Notes.{data_state_of, status_of, fault_of, loss_notes, shown_of, status_note};
+ghost use Rattle.nutcore.specs.Notes.{data_state_of, status_of, end_note, fault_of, loss_notes, shown_of, status_note};
 ghost use Rattle.nutcore.specs.Promises.{IsTaken, DoesLine, IsApplied, LacksMemory, Reports, IsFront, front_or, with_hearing, with_note};
 ghost use Rattle.nutcore.specs.declared.note.DataState.TheVariants.{Awaited};
 ghost use Rattle.nutcore.specs.declared.note.Note.TheVariants.{Data, LineRefused};
@@ -283,6 +283,8 @@ impl Ups {
         let outcome = self.apply(u, now.seconds, piece, count, notes)?;
         if settle(u, outcome, tracking) {
             self.refuse(u, outcome, piece, count, notes);
+        } else {
+            note_end(u, outcome, notes);
         }
         self.cut.clear();
         let is = self.data_state(now.max_age, now.seconds);
@@ -387,6 +389,17 @@ fn settle(u: UpsId, outcome: LineOutcome, tracking: &mut Tracking) -> bool
         LineOutcome::Accepted => false,
         LineOutcome::Tracked(id, number) => !tracking.settle(u.place as usize, id, number),
         LineOutcome::Refused(_) => true,
+    }
+}
+
+/// Notes how an order ended, where a line came to that. It is a call of its own, since inlined its
+/// room on the stack would be cleared at each line.
+#[inline(never)]
+fn note_end(u: UpsId, outcome: LineOutcome, notes: &mut Notes)
+    ensures { notes.new ≡ with_note (end_note u outcome) notes.old }
+{
+    if let LineOutcome::Tracked(id, number) = outcome {
+        notes.extend(Some(Note::OrderEnded(u, id, number)));
     }
 }
 

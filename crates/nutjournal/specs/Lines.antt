@@ -88,6 +88,7 @@ line_of_note (notes.StatusChanged u (Some status)) = of_ups u.place (kind_of_sta
 line_of_note (notes.StatusChanged u None) = nothing
 line_of_note (notes.LineRefused u fault None) = nothing
 line_of_note (notes.LineRefused u fault (Some shown)) = of_ups u.place kinds.RefusedStatus
+line_of_note (notes.OrderEnded u id number) = nothing
 line_of_note (notes.LoggedIn u who) = of_user who.address kinds.LoggedIn
 line_of_note (notes.LoggedOut u who) = of_user who.address kinds.LoggedOut
 line_of_note (notes.Did deed) = of_deed deed

@@ -321,6 +321,7 @@ impl Journal {
                     self.log(Of::Ups(u.place), Kind::RefusedStatus, name(u), &line);
                 }
             }
+            Note::OrderEnded(_, _, _) => {}
             Note::LoggedIn(u, who) => {
                 let of = Of::User(&who.address);
                 let line = format_args!("{who} logged in");

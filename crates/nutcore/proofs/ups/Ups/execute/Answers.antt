@@ -1,5 +1,5 @@
 use Rattle.std.proofs.Common.{◌≡◌, ◌∙◌, Option, Some, None, [], refl, sym, subst, ap, ap₂, cond}
-use Rattle.nutcore.specs.Notes.{fault_of, data_note, data_state_of, shown_of}
+use Rattle.nutcore.specs.Notes.{end_note, fault_of, data_note, data_state_of, shown_of}
 use Rattle.nutcore.specs.Promises.{DoesLine, front_or, with_note}
 use Rattle.nutcore.specs.Ups.{UpsState, with_faulty_line, with_unfinished}
 use Rattle.nutcore.specs.declared.note.Note.{Note}
@@ -19,13 +19,13 @@ returns-clause-done c =
       | else-settle w ↦ rw (w.self-is, w.if-settle.false) refl
     ] in
     let two : c.if-settle.notes ≡ with_note
-    (cond b (Some (LineRefused c.args.u (fault_of o) (shown_of line))) None) c.apply.new.notes =
+    (cond b (Some (LineRefused c.args.u (fault_of o) (shown_of line))) (end_note c.args.u o)) c.apply.new.notes =
     elim c.if-settle.branch [
       | then-settle w ↦ rw (w.notes-is, w.if-settle.true) (w.refuse.ensures.noted ∙
           ap (λ (s : UpsState). with_note (Some (LineRefused c.args.u (fault_of o)
           (shown_of (front_or c.args.count c.args.piece.now s.unfinished)))) c.apply.new.notes)
           c.in_ok-outcome.ensures.done.leaves)
-      | else-settle w ↦ rw (w.notes-is, w.if-settle.false) refl
+      | else-settle w ↦ rw (w.notes-is, w.if-settle.false) w.note_end.ensures
     ] in
     let a = c.args.now.max_age in
     let m = c.args.now.seconds in
