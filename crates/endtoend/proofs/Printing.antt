@@ -60,7 +60,7 @@ use Rattle.endtoend.proofs.Requests.{list_ups_read, num_attach_read, get_var_rea
 use Rattle.endtoend.proofs.Requests.{line_of_four}
 use Rattle.nutwords.specs.declared.limits.TheConstants.{LINE_ROOM, NAME_LIMIT, UPS_NAME_LIMIT, ADDRESS_LIMIT}
 use Rattle.nutrequest.specs.declared.limits.TheConstants.{ITEM_LIMIT}
-use Rattle.nutwords.proofs.TextLemmas.{text_short}
+use Rattle.nutwords.proofs.BytesRead.{text_short}
 
 -- one request, whose reply is whole
 printed_whole : (request : Request) (form : Form) (bytes : List ℕ) (items : List Item)

@@ -30,7 +30,7 @@ use Rattle.nutclient.specs.declared.limits.TheConstants.{USER_LIMIT, PASSWORD_LI
 use Rattle.endtoend.specs.Served.{IsLineOf, IsReadAsAsked}
 use Rattle.endtoend.proofs.LineReading.{written_line}
 use Rattle.endtoend.proofs.Texts.{text_itself, name_written, ups_name_written, quoted_written}
-use Rattle.nutwords.proofs.TextLemmas.{text_short, text_all}
+use Rattle.nutwords.proofs.BytesRead.{text_short, text_all}
 
 -- how long a line of two to five words is
 line_of_two : (a b : List ℕ) → length (line_of (a ∷ b ∷ [])) ≡ length a + length b + 2

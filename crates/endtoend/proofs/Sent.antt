@@ -34,7 +34,7 @@ use Rattle.endtoend.proofs.Requests.{list_client_read, list_ups_read, num_attach
 use Rattle.endtoend.proofs.Requests.{set_read, command_read, username_read, password_read}
 use Rattle.endtoend.proofs.Requests.{set_tracking_read}
 use Rattle.endtoend.proofs.Texts.{text_same}
-use Rattle.nutwords.proofs.TextLemmas.{text_all}
+use Rattle.nutwords.proofs.BytesRead.{text_all}
 
 -- what the words are read as
 pub name_read : (text : List ℕ) → IfSome (lawful (read_name text)) (λ name. is_name name ≡ true)

@@ -19,7 +19,7 @@ use Rattle.nutlisting.specs.Shown.{shown, ups_description}
 use Rattle.nutlisting.specs.declared.lines.TheConstants.{SHOWN_LIMIT}
 use Rattle.nutusers.specs.declared.limits.TheConstants.{DESCRIPTION_LIMIT}
 use Rattle.nutwords.specs.declared.limits.TheConstants.{VALUE_LIMIT, NAME_LIMIT, UPS_NAME_LIMIT, ADDRESS_LIMIT}
-use Rattle.nutwords.proofs.TextLemmas.{text_short, text_all, text_some, address_byte-bare}
+use Rattle.nutwords.proofs.BytesRead.{text_short, text_all, text_some, address_byte-bare}
 use Rattle.nutwords.proofs.Listing.{name_byte-bare}
 
 pub text_itself : (allowed : ℕ → Bool) (may_be_empty : Bool) (most : ℕ) (bytes : List ℕ) →

@@ -31,7 +31,7 @@ use Rattle.nutlisting.specs.Lawful.{IsLawfulText, room, TextsAreLawful, LawfulWo
 use Rattle.nutlisting.specs.Lines.{IsWholeLine}
 use Rattle.nutlisting.specs.Shown.{shown}
 use Rattle.nutlisting.specs.declared.lines.TheConstants.{SHOWN_LIMIT}
-use Rattle.nutwords.proofs.TextLemmas.{text_short, text_all, all_also}
+use Rattle.nutwords.proofs.BytesRead.{text_short, text_all, all_also}
 
 -- each byte is lawful
 abbrev pub Lawful : List ℕ → Type 0

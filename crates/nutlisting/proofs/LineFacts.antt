@@ -5,7 +5,7 @@ use Rattle.std.proofs.lemmas.Bool.Decides.{nat_tests}
 use Rattle.nutwords.specs.Bytes.{is_lawful}
 use Rattle.nutlisting.specs.Counts.{is_lf, has_no_lf}
 use Rattle.nutlisting.specs.Lines.{IsWholeLine}
-use Rattle.nutwords.proofs.TextLemmas.{all_also}
+use Rattle.nutwords.proofs.BytesRead.{all_also}
 
 -- a text without LF, and LF
 pub record IsLine (text : List ℕ) : Type 0 where

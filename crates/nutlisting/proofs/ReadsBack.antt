@@ -32,7 +32,7 @@ use Rattle.nutlisting.specs.ReadsBack.{ReadsBack, LawfulListingsReadBack}
 use Rattle.nutlisting.specs.Shown.{shown, ups_description}
 use Rattle.nutlisting.specs.declared.lines.TheConstants.{SHOWN_LIMIT}
 use Rattle.nutlisting.proofs.Lawful.{joined_text, texts_are_lawful}
-use Rattle.nutwords.proofs.TextLemmas.{text_all, all_also, text_some, address_byte-bare}
+use Rattle.nutwords.proofs.BytesRead.{text_all, all_also, text_some, address_byte-bare}
 use Rattle.nutwords.proofs.Listing.{name_byte-bare}
 
 -- a word of a line: what it means, how it is written, and that it has at most so many bytes

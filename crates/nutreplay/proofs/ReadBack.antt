@@ -56,7 +56,7 @@ use Rattle.nutreplay.specs.Script.{actions_of, first_bad_line}
 use Rattle.nutreplay.specs.Written.{name_at, verb_of_bytes, age_line, comment_line, head_of}
 use Rattle.nutreplay.specs.Written.{is_one_line, line_of, Has, IsEventOf, IsReadAs, AHeadIsRead}
 use Rattle.nutreplay.specs.Written.{WhatIsWrittenIsReadBack}
-use Rattle.nutwords.proofs.TextLemmas.{all_also}
+use Rattle.nutwords.proofs.BytesRead.{all_also}
 use Rattle.nutwords.proofs.Digits.{natural_of}
 
 -- The bytes of a line without LF, and those of a word of it.
