@@ -2,10 +2,10 @@
 use Rattle.std.proofs.Common.{◌≡◌, ◌∙◌, Bool, true, false, List, [], ◌∷◌, Option}
 use Rattle.std.proofs.Common.{Some, None, ap, codes, refl}
 use Rattle.clap.proofs.OnLiterals.{clap_on_literals}
-use Rattle.clap.proofs.WalkLemmas.{first_value-rows, one_text-rows}
-use Rattle.clap.specs.Words.{App, Row, Text, fault_of, first_of, found_of, is_simple, matches_of, one_of, rows_of}
-use Rattle.clap.specs.declared.parser.matches.ArgMatches.{ArgMatches}
-use Rattle.nutargs.specs.Words.{IsFlag, program_with}
+use Rattle.clap.proofs.WalkLemmas.{first_value-rows}
+use Rattle.clap.specs.Words.{App, Text, fault_of, first_of, found_of, is_simple, matches_of, one_of}
+use Rattle.nutargs.specs.Words.{program_with}
+use Rattle.nutargs.proofs.Flags.{flag, flag_text}
 use Rattle.nutclient.specs.Ending.{name_of}
 use Rattle.nutclient.specs.declared.program.Program.TheVariants.{Upsc}
 use Rattle.upsc.specs.Forms.{Asks, EachFormAsksForItsJob, an_id}
@@ -17,15 +17,6 @@ app = program_with (name_of Upsc) upsc_words
 simple : is_simple app ≡ true
 unfolding clap_on_literals
 simple = refl
-
-abbrev flag_text : Bool → Text
-flag_text true = codes "true"
-flag_text false = codes "false"
-
-flag : (found : ArgMatches) (name : Text) (given b : Bool) (rows : List Row) → rows_of (found_of found) ≡ rows
-    → one_of name rows ≡ Some (flag_text b) → IsFlag found name given → given ≡ b
-flag found name given true rows r text h = h.1 (one_text-rows (found_of found) name ∙ ap (one_of name) r ∙ text)
-flag found name given false rows r text h = h.2 (one_text-rows (found_of found) name ∙ ap (one_of name) r ∙ text)
 
 -- a form by what is found in its words
 form : (words : List Text) (l L c attached : Bool) (id name ups : Option Text)

@@ -2,11 +2,11 @@
 use Rattle.std.proofs.Common.{◌≡◌, ◌∙◌, Bool, true, false, List, [], ◌∷◌}
 use Rattle.std.proofs.Common.{◌++◌, Option, Some, None, ap, codes, refl}
 use Rattle.clap.proofs.OnLiterals.{clap_on_literals}
-use Rattle.clap.proofs.WalkLemmas.{first_value-rows, one_text-rows}
+use Rattle.clap.proofs.WalkLemmas.{first_value-rows}
 use Rattle.std.specs.Prelude.{option_and_then}
-use Rattle.clap.specs.Words.{App, Row, Text, fault_of, first_of, found_of, is_simple, matches_of, one_of, rows_of}
-use Rattle.clap.specs.declared.parser.matches.ArgMatches.{ArgMatches}
-use Rattle.nutargs.specs.Words.{IsFlag, program_with}
+use Rattle.clap.specs.Words.{App, Row, Text, fault_of, first_of, found_of, is_simple, matches_of, one_of}
+use Rattle.nutargs.specs.Words.{program_with}
+use Rattle.nutargs.proofs.Flags.{flag, flag_text}
 use Rattle.nutclient.specs.Ending.{name_of}
 use Rattle.nutclient.specs.declared.program.Program.TheVariants.{Upscmd}
 use Rattle.upscmd.specs.Forms.{Asks, EachFormAsksForItsJob, order_words}
@@ -18,15 +18,6 @@ app = program_with (name_of Upscmd) upscmd_words
 simple : is_simple app ≡ true
 unfolding clap_on_literals
 simple = refl
-
-abbrev flag_text : Bool → Text
-flag_text true = codes "true"
-flag_text false = codes "false"
-
-flag : (found : ArgMatches) (name : Text) (given b : Bool) (rows : List Row) → rows_of (found_of found) ≡ rows
-    → one_of name rows ≡ Some (flag_text b) → IsFlag found name given → given ≡ b
-flag found name given true rows r text h = h.1 (one_text-rows (found_of found) name ∙ ap (one_of name) r ∙ text)
-flag found name given false rows r text h = h.2 (one_text-rows (found_of found) name ∙ ap (one_of name) r ∙ text)
 
 abbrev rows_in : List Text → List Row
 rows_in words = matches_of app (codes "upscmd" ∷ words)
