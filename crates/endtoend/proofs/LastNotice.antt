@@ -21,7 +21,7 @@ use Rattle.nutcore.specs.Server.{ServerState, session, with_session, with_sessio
 use Rattle.nutcore.specs.Session.{SessionState, find, put}
 use Rattle.nutcore.specs.Sound.{IsSound, EachEventKeepsTheServerSound, ASoundServerIsLawful}
 use Rattle.nutcore.specs.Step.{after, after_by, pumped_until, refused_after, may_take, with_input, without_output}
-use Rattle.nutcore.proofs.Found.{find_id}
+use Rattle.nutcore.proofs.Found.{find_id, find_put}
 
 pub data NoticeIsLast : List Execution → Type 0 where
   none : NoticeIsLast []
@@ -70,19 +70,6 @@ executed_lines (suc k) s c =
     both_lines (next_execution s c (next_line_for s c)) (lines_executed k (after_line s c) c)
     (next_lines s c (next_line_for s c)) (executed_lines k (after_line s c) c)
 
-put_found : (c : ℕ) (xs : List SessionState) (x y : SessionState) → y.id ≡ c → find c xs ≡ Some x
-    → find c (put y xs) ≡ Some y
-put_found c [] x y own e = cc e
-put_found c (z ∷ zs) x y own e =
-    subst (λ i. find c (cond (eqb z.id i) (y ∷ zs) (z ∷ put y zs)) ≡ Some y) (sym own)
-    (by (eqb z.id c) refl e (put_found c zs x y own))
-  where
-    by : (b : Bool) → eqb z.id c ≡ b → cond b (Some z) (find c zs) ≡ Some x
-        → (find c zs ≡ Some x → find c (put y zs) ≡ Some y)
-        → find c (cond b (y ∷ zs) (z ∷ put y zs)) ≡ Some y
-    by true mine k later = rw (ap (λ i. eqb i c) own ∙ eq-eqb c c refl) refl
-    by false other k later = rw other (later k)
-
 noticed_over : (t : ServerState) (c : ℕ) → is_overlong t c ≡ true → is_over c (after_notice t c) ≡ true
 unfolding after_notice with_session_changed
 noticed_over t c long = by (session c t) refl long
@@ -92,8 +79,10 @@ noticed_over t c long = by (session c t) refl long
     by None e k = cc k
     by (Some x) e k =
         let own : x.id ≡ c = find_id c t.sessions x e in
+        let mine : (with_notice x).id ≡ c = ap (λ b. (if b then notified x else x).id) k ∙ own in
         let noted : find c (put (with_notice x) t.sessions) ≡ Some (with_notice x) =
-        put_found c t.sessions x (with_notice x) (ap (λ b. (if b then notified x else x).id) k ∙ own) e in
+        subst (λ i. find i (put (with_notice x) t.sessions) ≡ Some (with_notice x)) mine
+        (find_put (with_notice x) t.sessions x (subst (λ i. find i t.sessions ≡ Some x) (sym mine) e)) in
         ap (λ o. is_over c (option_map_or (λ x. with_session t (with_notice x)) o t)) e
         ∙ ap (λ o. option_map_or (λ (x : SessionState). x.ending) o (nat_lt c t.next_id)) noted
         ∙ ap (λ b. (if b then notified x else x).ending) k

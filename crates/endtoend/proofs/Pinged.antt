@@ -5,7 +5,7 @@ use Rattle.std.proofs.Common.{leb, max, List, [], ◌∷◌, ◌++◌, length, a
 use Rattle.std.proofs.Common.{refl, sym, ap, subst, arith, if◌then◌else◌}
 use Rattle.std.specs.Prelude.{◌&&◌, drop, map}
 use Rattle.std.specs.List.{slice_get}
-use Rattle.std.specs.Option.{option_map_or}
+use Rattle.std.specs.Option.{option_map, option_map_or}
 use Rattle.std.proofs.lemmas.Bool.{and_from, cases_lt}
 use Rattle.std.proofs.lemmas.Bool.Decides.{nat_tests}
 use Rattle.nutwords.specs.WholeLines.{is_too_long, whole_lines, unfinished_after}
@@ -29,7 +29,10 @@ use Rattle.nutcore.specs.Run.{Run}
 use Rattle.nutcore.specs.Server.{ServerState}
 use Rattle.nutcore.specs.Parts.{ups_at, changed_at, with_ups_changed}
 use Rattle.nutcore.specs.Session.{new_session}
-use Rattle.nutcore.specs.Sound.{Each, IsSoundUps}
+use Rattle.nutcore.specs.Sound.{IsSoundUps}
+use Rattle.nutcore.proofs.DriverRuns.{first_stays}
+use Rattle.nutcore.proofs.SoundUps.{each_get}
+use Rattle.std.proofs.lemmas.Option.{slice_get-map}
 use Rattle.nutcore.specs.Step.{Step, after, after_by}
 use Rattle.nutcore.specs.DriverEvents.{after_driver_bytes, after_driver_took}
 use Rattle.nutcore.specs.DriverEvents.{driver_may_take}
@@ -195,14 +198,6 @@ module _ (clients : AClientTouchesNoOther) (u : UpsId) where
   event_keeps s (event.Id id) o new step there none = subst (KeepsTime u s) (sym step.leaves)
       (record { moment = refl; max_age = refl; pinged = omega arith })
 
--- a tick before that third is over
-at_place : (f : UpsState → UpsState) (place : ℕ) (xs : List UpsState) (x : UpsState) →
-    slice_get xs place ≡ Some x
-    → slice_get (map f xs) place ≡ Some (f x)
-at_place f place [] x e = cc e
-at_place f zero (y ∷ xs) x e = let same : y ≡ x = cc e in ap (λ (z : UpsState). Some (f z)) same
-at_place f (suc place) (y ∷ xs) x e = at_place f place xs x e
-
 -- the driver is connected, and nothing came of it since that moment, nor was it asked
 record IsWaiting (u : UpsId) (last max_age : ℕ) (s : ServerState) : Type 0 where
   now : UpsState
@@ -234,7 +229,8 @@ tick_keeps u last max_age seconds s w few =
     let none : ping_is_due s.max_age moment w.now ≡ false =
     early s.max_age moment w.now (rw w.age_is w.some) (rw (w.last_is, w.age_is) few) in
     let same : pinged_of u (ticked seconds s) ≡ w.now.pinged =
-    ap pinged_in (at_place (after_tick s.max_age moment) u.place s.upses w.now w.there)
+    ap pinged_in (slice_get-map (after_tick s.max_age moment) s.upses u.place
+    ∙ ap (option_map (after_tick s.max_age moment)) w.there)
     ∙
     ap (λ (b : Bool). (if b then record w.now { pinged = moment; owed = w.now.owed ++ ping_line } else w.now).pinged)
     none in
@@ -313,12 +309,6 @@ module _ (clients : AClientTouchesNoOther) (reported : WhatADriverReportedIsExec
           ∙ ap (λ (b : Bool). (if b then ping ∷ [] else []) ++ []) due)
       by false full = inr (rw owed_is (grind (arith, nat_tests)))
 
-  first_connected : (s : ServerState) (es : List Event) (os : List Outcome) → StaysConnected u s es os
-      → has_driver u s ≡ true
-  first_connected s [] os stays = stays
-  first_connected s (e ∷ es) [] stays = stays
-  first_connected s (e ∷ es) (o ∷ os) stays = stays.0
-
   front_none : {A : Type 0} (xs ys : List A) → xs ++ ys ≡ [] → xs ≡ []
   front_none [] ys e = refl
   front_none (x ∷ xs) ys e = cc e
@@ -391,7 +381,7 @@ module _ (clients : AClientTouchesNoOther) (reported : WhatADriverReportedIsExec
             let stays_behind : StaysConnected u mid es os =
             subst (λ z. StaysConnected u z es os) (sym step.leaves) stays.1 in
             behind s mid e o es os step
-            (found mid new es os (still_waits s e o mid w step stays.0 (first_connected mid es os stays_behind)
+            (found mid new es os (still_waits s e o mid w step stays.0 (first_stays u mid es os stays_behind)
             (front_none (heard_in_event u s e o) (heard u (after s e o) es os) silent) early_still) run stays_behind
             (subst (λ z. heard u z es os ≡ []) (sym step.leaves)
             (rest_none (heard_in_event u s e o) (heard u (after s e o) es os) silent)) over)
@@ -399,23 +389,16 @@ module _ (clients : AClientTouchesNoOther) (reported : WhatADriverReportedIsExec
   found s new [] (o ∷ os) w run stays silent over = absurd run
   found s new (e ∷ es) [] w run stays silent over = absurd run
 
--- what holds of each UPS
-each_at : (P : UpsState → Type 0) (xs : List UpsState) (place : ℕ) (x : UpsState) → Each P xs
-    → slice_get xs place ≡ Some x → P x
-each_at P [] place x all e = cc e
-each_at P (y ∷ xs) zero x all e = subst P (let same : y ≡ x = cc e in same) all.0
-each_at P (y ∷ xs) (suc place) x all e = each_at P xs place x all.1 e
-
 pub asked_in_time : AClientTouchesNoOther → WhatADriverReportedIsExecuted → ASilentDriverIsAskedInTime
 asked_in_time clients reported = λ u old new events outcomes h.
-    let sound = each_at (IsSoundUps old.moment) old.upses u.place h.now h.sound.upses h.there in
+    let sound = each_get (IsSoundUps old.moment) old.upses u.place h.now h.there h.sound.upses in
     let pinged : h.now.pinged ≤ old.moment = sound.pinged in
     let least : MAX_AGE_LEAST ≤ old.max_age = h.sound.max_age.0 in
     found clients reported u old.moment old.max_age old new events outcomes (record {
       now = h.now;
       there = h.there;
       is_connected = subst (λ o. connected_in o ≡ true) h.there
-          (first_connected clients reported u old.moment old.max_age old events outcomes h.stays);
+          (first_stays u old events outcomes h.stays);
       last_is = h.last;
       not_asked = pinged;
       before = omega arith;

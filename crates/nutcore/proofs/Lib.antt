@@ -37,7 +37,7 @@ mod Isolation
 mod Happenings
 mod KeptSound
 mod OrderFits
-mod SoundUps
+pub mod SoundUps
 mod Sound
 mod Bounded
 mod NoteRoom

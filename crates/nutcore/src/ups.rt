@@ -7,7 +7,7 @@ ghost use Rattle.nutcore.specs.Due.{due_of, never};
 ghost use Rattle.nutcore.specs.Notes.{data_state_of, status_of, end_note, fault_of, loss_notes, shown_of, status_note};
 ghost use Rattle.nutcore.specs.Promises.{IsTaken, DoesLine, IsApplied, LacksMemory, Reports, IsFront, front_or, with_hearing, with_note};
 ghost use Rattle.nutcore.specs.declared.note.DataState.TheVariants.{Awaited};
-ghost use Rattle.nutcore.specs.declared.note.Note.TheVariants.{Data, LineRefused};
+ghost use Rattle.nutcore.specs.declared.note.Note.TheVariants.{Data, LineRefused, OrderEnded};
 ghost use Rattle.nutcore.specs.declared.note.TheConstants.{NOTE_LIMIT};
 ghost use Rattle.nutdriver.specs.LastLine.{value_of};
 ghost use Rattle.nutdriver.specs.Report.{HasLawfulNumber, line_changes, reported_end};
@@ -392,15 +392,21 @@ fn settle(u: UpsId, outcome: LineOutcome, tracking: &mut Tracking) -> bool
     }
 }
 
-/// Notes how an order ended, where a line came to that. It is a call of its own, since inlined its
-/// room on the stack would be cleared at each line.
-#[inline(never)]
+/// Notes how an order ended, where a line came to that.
 fn note_end(u: UpsId, outcome: LineOutcome, notes: &mut Notes)
     ensures { notes.new ≡ with_note (end_note u outcome) notes.old }
 {
     if let LineOutcome::Tracked(id, number) = outcome {
-        notes.extend(Some(Note::OrderEnded(u, id, number)));
+        note_ended(u, id, number, notes);
     }
+}
+
+/// It is a call of its own, since inlined its room on the stack would be cleared at each line.
+#[inline(never)]
+fn note_ended(u: UpsId, id: u128, number: u32, notes: &mut Notes)
+    ensures { notes.new ≡ with_note (Some (OrderEnded u id number)) notes.old }
+{
+    notes.extend(Some(Note::OrderEnded(u, id, number)));
 }
 
 /// Why a line is refused that came to this, none where it reports on an order.
