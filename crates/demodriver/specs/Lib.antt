@@ -1,1 +1,3 @@
 pub mod Ups
+pub mod Status
+pub mod Orders

@@ -3,7 +3,9 @@
 #![tactic(auto)]
 
 mod driver;
+mod orders;
 mod server;
+mod status;
 mod ups;
 
 use crate::driver::Driver;
@@ -100,7 +102,7 @@ fn is_left(rt: &HostRuntime, path: &str) -> bool {
 
 /// Simulates the UPS, and serves each server that connects until it is gone.
 fn serve(rt: &HostRuntime, listener: &UnixListener) -> io::Result<()> {
-    let mut driver = Driver::new(rt);
+    let mut driver = Driver::new();
     let mut servers = Vec::new(rt.alloc());
     let start = Instant::now(rt)?;
     let mut second = 0;

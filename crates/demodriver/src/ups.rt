@@ -2,6 +2,8 @@
 ghost use Rattle.std.specs.Prelude.{◌≡◌, ◌≤◌, ◌*◌};
 ghost use Rattle.demodriver.specs.Ups.{new_ups, after_second, after_failure, after_return, status_of, input_of, load_at};
 
+use crate::status::Status;
+
 /// The charge of a full battery, percent.
 pub const FULL: u8 = 100;
 
@@ -29,7 +31,7 @@ pub const LOAD: u32 = 24;
 pub const LOAD_TURN: u32 = 4;
 
 /// The UPS.
-#[derive(Clone, Copy)]
+#[derive(Drop)]
 pub struct Ups {
     /// The power has failed.
     pub is_failing: bool,
@@ -37,6 +39,8 @@ pub struct Ups {
     pub charge: u8,
     /// The charge at which that is low, percent.
     pub low: u8,
+    /// The status that was set: nothing where the simulated one is reported.
+    pub set: Status,
     /// How many seconds it has been simulated.
     pub seconds: u32,
 }
@@ -50,6 +54,7 @@ impl Ups {
             is_failing: false,
             charge: FULL,
             low: LOW,
+            set: Status::none(),
             seconds: 0,
         }
     }
@@ -66,24 +71,30 @@ impl Ups {
         };
     }
 
-    /// The power fails.
+    /// The power fails. The simulated status is reported again.
     pub fn start_failure(&mut self)
         ensures { self.new ≡ after_failure self.old }
     {
         self.is_failing = true;
+        self.set = Status::none();
     }
 
-    /// The power is back.
+    /// The power is back. The simulated status is reported again.
     pub fn stop_failure(&mut self)
         ensures { self.new ≡ after_return self.old }
     {
         self.is_failing = false;
+        self.set = Status::none();
     }
 
-    /// `ups.status`: OL on line power, OB on battery, LB where that is low.
-    pub fn status(&self) -> &'static str
+    /// `ups.status`: as it was set; else OL on line power, OB on battery, LB where that is low.
+    pub fn status(&self) -> &str
         ensures { result.now ≡ status_of self.now }
     {
+        let set = self.set.as_str();
+        if !set.is_empty() {
+            return set;
+        }
         match (self.is_failing, self.charge) {
             (false, charge) if charge >= FULL => "OL",
             (false, _) => "OL CHRG",

@@ -1,6 +1,5 @@
 pub mod Underway
 pub mod Printing
-pub mod Ports
 pub mod Done
 pub mod Ordering
 mod Meanings

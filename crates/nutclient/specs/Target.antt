@@ -1,10 +1,9 @@
 -- The UPS and the server that a program's words name (upsc(8)).
 use Rattle.std.specs.Prelude.{ℕ, Bool, not, List, ◌&&◌, ◌||◌, ◌==◌, nat_le, nat_lt, length}
-use Rattle.std.specs.Prelude.{slice_index, Option, Some, None, Result, Ok, Err, if◌then◌else◌}
+use Rattle.std.specs.Prelude.{Option, Some, None, Result, Ok, Err, if◌then◌else◌, option_and_then}
 use Rattle.std.specs.Prelude.{codes}
 use Rattle.std.specs.List.{list_all, position_or_len, before_first, after_first}
-use Rattle.std.specs.Str.Parse.{digits_value}
-use Rattle.nutwords.specs.Natural.{is_digit}
+use Rattle.nutwords.specs.Natural.{read_natural}
 use Rattle.nutwords.specs.Reading.{read_ups_name}
 use Rattle.nutwords.specs.declared.faults.BadName.{BadName}
 use Rattle.nutclient.specs.declared.limits.TheConstants.{HOST_LIMIT, PORT_LIMIT, DEFAULT_PORT}
@@ -35,16 +34,12 @@ host_of text =
     else if nat_le (length text) HOST_LIMIT then Some text
     else None
 
--- Digits, of which the first isn't 0.
-abbrev pub is_numeral : List ℕ → Bool
-is_numeral text = not (length text == 0) && list_all is_digit text && not (slice_index text 0 == 48)
-
 -- The port that a text writes: 1 to 65,535, without leading zeros.
+abbrev pub port_from : ℕ → Option ℕ
+port_from port = if nat_le 1 port then Some port else None
+
 abbrev pub port_of : List ℕ → Option ℕ
-port_of text =
-    if is_numeral text
-    then (if nat_le (digits_value 10 text) PORT_LIMIT then Some (digits_value 10 text) else None)
-    else None
+port_of text = option_and_then port_from (read_natural PORT_LIMIT text)
 
 abbrev pub server_at : Option (List ℕ) → Option ℕ → Option Target
 server_at = both (λ host port. record { host = host; port = port })

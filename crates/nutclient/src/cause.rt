@@ -49,23 +49,17 @@ impl Cause {
             (Some(error), _) | (None, Some(error)) => Some((Place::Server, error)),
             (None, None) => out.error().map(|error| (Place::Output, error)),
         };
-        Cause::of_error(server, failed, reader.has_moved())
+        Cause::of_error(server, failed, reader.has_given())
     }
 
     fn of_error(server: ServerName, failed: Option<(Place, Error)>, has_heard: bool) -> Cause {
-        let mut cause = Cause {
+        Cause {
             server,
-            place: Place::Server,
-            said: ArrayString::new(),
-            was_reset: false,
+            place: failed.map_or(Place::Server, |it| it.0),
+            said: failed.map_or(ArrayString::new(), |it| said(it.1)),
+            was_reset: failed.is_some_and(|it| it.1.kind() == ErrorKind::ConnectionReset),
             has_heard,
-        };
-        if let Some((place, error)) = failed {
-            cause.place = place;
-            cause.was_reset = error.kind() == ErrorKind::ConnectionReset;
-            cause.said = said(error);
         }
-        cause
     }
 }
 
@@ -79,5 +73,11 @@ fn said(error: Error) -> ArrayString<SAID_LIMIT> {
         }
         _ => write!(text, "{}", Said(error)),
     };
-    text
+    // std's own words before those of the system.
+    match text.as_str().strip_prefix(LOOKED_UP) {
+        Some(reason) => ArrayString::from(reason).unwrap_or(text),
+        None => text,
+    }
 }
+
+const LOOKED_UP: &str = "failed to lookup address information: ";

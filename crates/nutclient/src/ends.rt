@@ -7,8 +7,8 @@ pub trait Witness {
     /// Why its last call failed.
     fn error(&self) -> Option<Error>;
 
-    /// Whether bytes went through it.
-    fn has_moved(&self) -> bool;
+    /// Whether bytes came of it.
+    fn has_given(&self) -> bool;
 }
 
 /// A stream as an end: how often its calls failed, and what it met.
@@ -17,7 +17,7 @@ pub(crate) struct End<S> {
     stream: S,
     failures: u64,
     error: Option<Error>,
-    has_moved: bool,
+    has_given: bool,
 }
 
 impl<S> End<S> {
@@ -27,7 +27,7 @@ impl<S> End<S> {
             stream,
             failures: 0,
             error: None,
-            has_moved: false,
+            has_given: false,
         }
     }
 }
@@ -40,7 +40,7 @@ impl<S: Read> Source for End<S> {
     fn read(&mut self, into: &mut [u8]) -> Result<usize, Failed> {
         match self.stream.read(into) {
             Ok(n) => {
-                self.has_moved = self.has_moved || n > 0;
+                self.has_given = self.has_given || n > 0;
                 Ok(n)
             }
             Err(error) => {
@@ -59,10 +59,7 @@ impl<S: Write> Sink for End<S> {
 
     fn write(&mut self, from: &[u8]) -> Result<usize, Failed> {
         let error = match self.stream.write(from) {
-            Ok(n) if n > 0 || from.is_empty() => {
-                self.has_moved = self.has_moved || n > 0;
-                return Ok(n);
-            }
+            Ok(n) if n > 0 || from.is_empty() => return Ok(n),
             Ok(_) => Error::from(ErrorKind::WriteZero),
             Err(error) => error,
         };
@@ -77,7 +74,7 @@ impl<S> Witness for End<S> {
         self.error
     }
 
-    fn has_moved(&self) -> bool {
-        self.has_moved
+    fn has_given(&self) -> bool {
+        self.has_given
     }
 }

@@ -56,7 +56,7 @@ pub fn do_job<R: Source + Witness, W: Sink + Witness, O: Sink + Witness, E: Sink
     match run(&mut session, out, shows.is_terminal, job) {
         Ok(()) => (0, session),
         Err(fault) => {
-            let cause = Cause::of_ends(server, session.reader(), session.writer(), out);
+            let cause = Cause::of_ends(server, &session.reader, &session.writer, out);
             let may_be_given = may_be_given(session.has_ordered, &fault);
             let why = why_of(may_be_given, job.requests.as_slice(), &fault, &cause);
             let status = report(err, program, shows.is_explained, &fault, &why);

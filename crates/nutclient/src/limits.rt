@@ -11,7 +11,7 @@ pub const USER_LIMIT: usize = 64;
 pub const PASSWORD_LIMIT: usize = 256;
 
 /// The greatest port.
-pub const PORT_LIMIT: usize = 65_535;
+pub const PORT_LIMIT: u64 = 65_535;
 
 /// The port of the protocol (IANA: nut).
 pub const DEFAULT_PORT: u16 = 3493;

@@ -41,14 +41,12 @@ pub(crate) fn put_password(
 
 /// The word that says the password of this file. `None` where it can't be read: that is reported.
 fn password_or_report(rt: &HostRuntime, program: Program, path: &str) -> Option<String> {
-    match password_word(rt, path) {
-        Ok(word) => Some(word),
-        Err(error) => {
-            let (name, error) = (program.name(), Said(error));
-            let _ = eprintln!(rt; "{name}: {path}: {error}");
-            None
-        }
+    let word = password_word(rt, path);
+    if let Err(error) = &word {
+        let (name, error) = (program.name(), Said(*error));
+        let _ = eprintln!(rt; "{name}: {path}: {error}");
     }
+    word.ok()
 }
 
 /// The word that says the password of this file: its one line. A file with more is refused as any

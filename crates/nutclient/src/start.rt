@@ -16,8 +16,8 @@ use crate::password::put_password;
 use crate::{Client, Program, Shows, ending};
 use clap::{ArgMatches, Command, Error};
 use nutargs::{
-    VERSION, Word, explains, hold_standard_streams, is_terminal, print_refusal, with_explain,
-    with_words, words_of,
+    VERSION, explains, hold_standard_streams, is_terminal, print_refusal, with_explain, with_words,
+    words_of,
 };
 use nutio::CountedWriter;
 use nutrequest::ClientFault;
@@ -51,10 +51,9 @@ fn why_no_words(fault: &ClientFault) -> &'static [u8]
 fn obey_words<C: Client>(rt: &HostRuntime, mut words: Vec<String>) -> u8
     ensures { result ≤ WORD_FAULT }
 {
-    if takes_password_file(C::words()) {
-        if put_password(rt, C::PROGRAM, &mut words).is_none() {
-            return WORD_FAULT;
-        }
+    let takes_file = C::words().iter().any(|word| word.name == "password-file");
+    if takes_file && put_password(rt, C::PROGRAM, &mut words).is_none() {
+        return WORD_FAULT;
     }
     obey_read::<C>(rt, &words)
 }
@@ -78,11 +77,6 @@ fn end_by<C: Client>(rt: &HostRuntime, parsed: &Result<ArgMatches<'_>, Error>) -
         Ok(found) => obey_system::<C>(rt, found),
         Err(error) => end(rt, C::PROGRAM, error),
     }
-}
-
-/// Whether `--password-file` is among the words of a program.
-fn takes_password_file(words: &[Word]) -> bool {
-    words.iter().any(|word| word.name == "password-file")
 }
 
 /// Does what was found in the words over the system's network and its standard outputs.

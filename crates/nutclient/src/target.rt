@@ -2,12 +2,11 @@
 ghost use Rattle.std.specs.Prelude.{◌≡◌};
 ghost use Rattle.std.specs.List.{list_all};
 ghost use Rattle.std.specs.Result.{result_ok};
-ghost use Rattle.nutwords.specs.Natural.{is_digit};
-ghost use Rattle.nutclient.specs.Target.{host_of, is_host_byte, is_numeral, port_of, local_server, ups_place_of};
+ghost use Rattle.nutclient.specs.Target.{host_of, is_host_byte, port_of, local_server, ups_place_of};
 
-use crate::{BadWord, DEFAULT_PORT, HOST_LIMIT, Part};
+use crate::{BadWord, DEFAULT_PORT, HOST_LIMIT, PORT_LIMIT, Part};
 use arrayvec::ArrayString;
-use nutwords::{UpsName, is_digit};
+use nutwords::{UpsName, read_natural};
 use std::marker::Model;
 use std::str::FromStr;
 
@@ -26,17 +25,15 @@ impl Model for Host {
     ghost view = { λ h. h.text.bytes };
 }
 
-impl Host {
-    /// Reads the name of a host.
-    pub fn read(text: &str) -> Option<Host>
-        ensures { result ≡ host_of text.now }
-    {
-        if text.is_empty() || !are_host_bytes(text.as_bytes()) {
-            return None;
-        }
-        let text = ArrayString::from(text).ok()?;
-        Some(Host { text })
+/// Reads the name of a host.
+fn host_in(text: &str) -> Option<Host>
+    ensures { result ≡ host_of text.now }
+{
+    if text.is_empty() || !are_host_bytes(text.as_bytes()) {
+        return None;
     }
+    let text = ArrayString::from(text).ok()?;
+    Some(Host { text })
 }
 
 /// Whether the name of a host may have these bytes.
@@ -110,7 +107,7 @@ impl FromStr for Target {
             Some((name, port)) => (name, port_number(port)),
             None => (text, Some(DEFAULT_PORT)),
         };
-        match (Host::read(name), port) {
+        match (host_in(name), port) {
             (Some(host), Some(port)) => Ok(Target { host, port }),
             (host, _) => Err(bad_server(text, host.is_some())),
         }
@@ -145,21 +142,6 @@ pub(crate) fn ups_and_target(text: &str) -> Result<(UpsName, Target), BadWord>
 fn port_number(text: &str) -> Option<u16>
     ensures { result ≡ port_of text.now }
 {
-    if !is_numeral(text.as_bytes()) {
-        return None;
-    }
-    text.parse().ok()
-}
-
-/// Whether these are digits, of which the first isn't 0.
-fn is_numeral(text: &[u8]) -> bool
-    ensures { result ≡ is_numeral text.now }
-{
-    !text.is_empty() && are_digits(text) && text[0] != b'0'
-}
-
-fn are_digits(text: &[u8]) -> bool
-    ensures { result ≡ list_all is_digit text.now }
-{
-    text.iter().all(|b| is_digit(*b))
+    let port = read_natural(text.as_bytes(), PORT_LIMIT)? as u16;
+    if port >= 1 { Some(port) } else { None }
 }

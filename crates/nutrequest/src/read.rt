@@ -121,7 +121,7 @@ fn expected<'a>(request: &Request, words: Words<'a>) -> Option<Excerpt<'a>>
             id(behind(&[b"OK", b"TRACKING"], words))
         }
         Request::GetTracking(id) => progress(behind(&[b"TRACKING", &id_text(*id)], words)?),
-        _ => is_nothing(behind(&[b"OK"], words)).then_some(Excerpt::Fixed(b"OK")),
+        _ => ends(behind(&[b"OK"], words)).then_some(Excerpt::Fixed(b"OK")),
     }
 }
 
@@ -138,14 +138,11 @@ fn behind<'a>(front: &[&[u8]], mut words: Words<'a>) -> Option<Words<'a>>
     Some(words)
 }
 
-/// Whether there are words after, and they are none.
-fn is_nothing(words: Option<Words<'_>>) -> bool
+/// Whether the line goes so far, and ends there.
+fn ends(words: Option<Words<'_>>) -> bool
     ensures { result ≡ is_nothing words.entry }
 {
-    match words {
-        Some(mut words) => words.next().is_none(),
-        None => false,
-    }
+    words.is_some_and(|mut words| words.next().is_none())
 }
 
 /// The words after, where they are one.
@@ -175,7 +172,7 @@ fn is_frame(verb: &[u8], query: &Query, words: Words<'_>) -> bool
     ensures { result ≡ is_frame verb.now query.now words.entry }
 {
     match behind(&[verb, b"LIST"], words) {
-        Some(words) => is_nothing(behind_asked(query, words)),
+        Some(words) => ends(behind_asked(query, words)),
         None => false,
     }
 }
@@ -209,7 +206,7 @@ fn progress<'a>(mut words: Words<'a>) -> Option<Excerpt<'a>>
         }
         return Some(Excerpt::Failure(number));
     }
-    if stands_alone(word.as_bytes()) && is_nothing(Some(words)) {
+    if stands_alone(word.as_bytes()) && ends(Some(words)) {
         Some(Excerpt::Word(word))
     } else {
         None
@@ -263,9 +260,7 @@ fn item<'a>(query: &Query, words: Words<'a>) -> Option<(Excerpt<'a>, Excerpt<'a>
     }
     let value = match query {
         Query::Ups | Query::Var(_) | Query::Rw(_) => only_word(Some(words)).map(Excerpt::Word),
-        Query::Cmd(_) | Query::Client(_) => {
-            is_nothing(Some(words)).then_some(Excerpt::Fixed(b""))
-        }
+        Query::Cmd(_) | Query::Client(_) => { ends(Some(words)).then_some(Excerpt::Fixed(b"")) }
     };
     Some((Excerpt::Word(name), value?))
 }

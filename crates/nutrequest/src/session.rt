@@ -19,8 +19,10 @@ use std::alloc::Global;
 pub struct Session<R, W> {
     /// Where its memory comes from.
     pub alloc: Global,
-    reader: R,
-    writer: W,
+    /// The end that it reads from.
+    pub reader: R,
+    /// The end that it writes to.
+    pub writer: W,
     inbox: Inbox,
     /// Whether it met a fault: every further request is refused then.
     pub is_over: bool,
@@ -45,20 +47,6 @@ impl<R: Source, W: Sink> Session<R, W> {
             is_over: false,
             has_ordered: false,
         }
-    }
-
-    /// The end that it reads from.
-    pub fn reader(&self) -> &R
-        ensures { result.now ≡ reader_of self.now }
-    {
-        &self.reader
-    }
-
-    /// The end that it writes to.
-    pub fn writer(&self) -> &W
-        ensures { result.now ≡ writer_of self.now }
-    {
-        &self.writer
     }
 }
 
