@@ -11,5 +11,5 @@ mod refusals;
 mod tallies;
 mod tally;
 
-pub use doings::{CROWD, Crowd, Doings, Leave};
+pub use doings::{COUNTED, CROWD, Crowd, Doings, Leave};
 pub use journal::Journal;
