@@ -29,19 +29,23 @@ nobody f (Some x) b h = cc h
 nobody_left : (doings : Doings) → are_none doings ≡ true → left_due doings ≡ None
 nobody_left doings h = nobody _ doings.left _ h
 
+no_note : (all : List Note) → length all ≡ 0 → all ≡ []
+no_note [] h = refl
+no_note (note ∷ all) h = absurd (omega arith)
+
 -- Nothing was noted, and nobody left.
 pub no_call : (s : ServerState) (all : List Note) (doings : Doings) (old begun new : Journal)
-    → Begins s doings old begun → all ≡ [] → are_none doings ≡ true → new ≡ begun → IsCall s all doings old new
+    → Begins s doings old begun → length all ≡ 0 → are_none doings ≡ true → new ≡ begun → IsCall s all doings old new
 no_call s all doings old begun new second none nobody same = record {
   begun = begun;
   second = second;
   logged = begun.log;
   lines = subst (λ ns. DuesMore s.list (dues_of s.moment ns begun.drivers ++ left_due doings ∷ []) begun.tallies begun.log begun.log)
-      (sym none)
+      (sym (no_note all none))
       (begun.log, subst (λ due. DueMore s.list due begun.tallies begun.log begun.log) (sym (nobody_left doings nobody)) refl, refl);
   flushed = record { times = 0; are = ap (λ j. j.log) same };
   tallies = subst (λ ns. new.tallies ≡ after_dues (dues_of s.moment ns begun.drivers ++ left_due doings ∷ []) begun.tallies)
-      (sym none) (subst (λ due. new.tallies ≡ after_due due begun.tallies) (sym (nobody_left doings nobody)) (ap (λ j. j.tallies) same));
+      (sym (no_note all none)) (subst (λ due. new.tallies ≡ after_due due begun.tallies) (sym (nobody_left doings nobody)) (ap (λ j. j.tallies) same));
   counts = ap (λ j. j.counts) same;
 }
 
