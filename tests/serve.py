@@ -605,6 +605,21 @@ def each_order_is_logged_among_refusals_of_64_addresses():
         assert 0 < named <= 30 * (seconds + 2), (named, seconds)
 
 
+def of_70_addresses_each_line_is_logged_or_counted():
+    """Of 64 by itself, of all others together."""
+    with served() as (server, *_):
+        for number in range(1, 71):
+            client = server.client(f"127.0.2.{number}")
+            assert client.ask(b"LOGIN su\n" * 20).count(b"ERR ") == 20
+            client.close()
+
+        def parts():
+            return (server.journal().count(" was refused LOGIN: "),
+                    sum(map(int, re.findall("^upsd: more lines of (?:127[.]0[.]2[.][0-9]+|other addresses): ([0-9]+) refused LOGIN$", server.journal(), re.M))))
+
+        assert comes(lambda: sum(parts()) == 1400, 62), (parts(), server.journal())
+
+
 def after_20_lines_in_a_minute_a_client_is_only_counted():
     """Its first minute has at most 30 lines of it. An order of the same address is logged still."""
     with served(ORDERS) as (server, _, good):

@@ -1,3 +1,4 @@
 mod Lines
 mod Seconds
-pub mod Due
+pub mod Places
+pub mod Calls

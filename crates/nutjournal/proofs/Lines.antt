@@ -13,7 +13,7 @@ use Rattle.nutjournal.specs.Tally.{after_line, after_lines, count, number, is_lo
 use Rattle.nutjournal.specs.Tally.{Coming, one_if, one_more, logged_of, times, limit_of}
 use Rattle.nutjournal.specs.Tally.{EachLineIsLoggedOrCounted}
 
-number_below : (kind : Kind) → number kind < 18
+number_below : (kind : Kind) → number kind < 20
 number_below kinds.Lost = grind arith
 number_below kinds.Awaited = grind arith
 number_below kinds.Good = grind arith
@@ -32,6 +32,8 @@ number_below kinds.EmptyOrder = grind arith
 number_below kinds.Silent = grind arith
 number_below kinds.GaveWay = grind arith
 number_below kinds.RefusedStatus = grind arith
+number_below kinds.OrderDone = grind arith
+number_below kinds.OrderFailed = grind arith
 
 limit_below : (kind : Kind) → limit_of kind ≤ LINE_LIMIT
 limit_below kinds.Lost = grind arith
@@ -52,6 +54,8 @@ limit_below kinds.EmptyOrder = grind arith
 limit_below kinds.Silent = grind arith
 limit_below kinds.GaveWay = grind arith
 limit_below kinds.RefusedStatus = grind arith
+limit_below kinds.OrderDone = grind arith
+limit_below kinds.OrderFailed = grind arith
 
 -- a count among others, one of which is raised
 raised : (more : List ℕ) (i j : ℕ) → j < length more → get_or more i 0 < 2 ^ 64 - 1
@@ -63,7 +67,7 @@ raised more i j below room = grind (
   get_or-set_other more j i (one_more (get_or more j 0)) 0,
 )
 
-step : (r : Bool) (y : Tally) (kind next : Kind) → length y.more ≡ 18 → count kind y < 2 ^ 64 - 1
+step : (r : Bool) (y : Tally) (kind next : Kind) → length y.more ≡ 20 → count kind y < 2 ^ 64 - 1
     → one_if (is_same kind next && is_logged r y next) + count kind (after_line r y next) ≡
     count kind y + one_if (is_same kind next)
 step r y kind next size room = grind (arith, nat_tests, raised y.more (number kind) (number next), number_below next)
@@ -71,7 +75,7 @@ step r y kind next size room = grind (arith, nat_tests, raised y.more (number ki
 same_size : (r : Bool) (y : Tally) (next : Kind) → length (after_line r y next).more ≡ length y.more
 same_size r y next = grind (arith, length-set y.more (number next) (one_more (count next y)))
 
-each_of : (y : Tally) (kind : Kind) (lines : List Coming) → length y.more ≡ 18 → count kind y +
+each_of : (y : Tally) (kind : Kind) (lines : List Coming) → length y.more ≡ 20 → count kind y +
     length lines < 2 ^ 64
     → logged_of kind y lines + count kind (after_lines y lines) ≡ count kind y + times kind lines
 each_of y kind [] size room = grind arith

@@ -5,3 +5,4 @@ pub mod Drivers
 pub mod Waiting
 pub mod Refusals
 pub mod Lines
+pub mod Calls

@@ -1,13 +1,16 @@
 -- The lines of a second, by what they are of.
 use Rattle.std.specs.Prelude.{◌≡◌, ℕ, ◌+◌, ◌++◌, ◌<◌, take, drop, Bool, false, true, map, List, []}
 use Rattle.std.specs.Prelude.{◌∷◌, if◌then◌else◌, ◌==◌, ◌&&◌, ◌||◌, not, nat_lt, length, slice_get}
-use Rattle.std.specs.Prelude.{slice_set, unwrap_or, Option, Some}
+use Rattle.std.specs.Prelude.{slice_set, unwrap_or, Option, Some, None, option_map}
 use Rattle.std.specs.List.{list_any, position_or_len}
 use Rattle.std.specs.Option.{option_eq, option_map_or}
 use Rattle.std.specs.Str.{bytes_eq}
 use Rattle.nutcore.specs.declared.note.Deed.{Deed}
 use Rattle.nutcore.specs.declared.note.Verb.{Verb}
+use Rattle.nutcore.specs.declared.note.Who.{Who}
 use Rattle.nutcore.specs.declared.note.Verb.TheVariants as verbs
+use Rattle.nutusers.specs.declared.ups_list.UpsId.{UpsId}
+use Rattle.nutusers.specs.UpsList.{Ups}
 use Rattle.nutjournal.specs.declared.tally.Kind.{Kind}
 use Rattle.nutjournal.specs.declared.tally.Tally.{Tally}
 use Rattle.nutjournal.specs.declared.tallies.Clients.{Clients}
@@ -19,7 +22,7 @@ use Rattle.nutjournal.specs.declared.tallies.TheConstants.{ADDRESS_COUNT, ORDER_
 use Rattle.nutjournal.specs.Tally.{after_line, after_second, is_logged, nothing}
 
 abbrev pub fresh : Tally
-fresh = record { lines = 0; logged = 0; more = nothing }
+fresh = record { lines = 0; logged = 0; more = nothing; worst = None }
 
 -- The place of an address, or their number where it has none.
 abbrev pub is : List ℕ → Option (List ℕ) → Bool
@@ -127,17 +130,46 @@ after_client address kind all =
       refusals = if is_client_logged address kind all then all.refusals + 1 else all.refusals;
     }
 
-abbrev pub is_line_logged : Of → Kind → Tallies → Bool
-is_line_logged (whose.Ups place) kind all = is_ups_logged place kind all
-is_line_logged (whose.User address) kind all = is_user_logged address.now kind all
-is_line_logged (whose.Order deed) kind all = is_order_logged deed.now kind all
-is_line_logged (whose.Client address) kind all = is_client_logged address.now kind all
+-- What a line is of: a UPS, what a user did at a UPS, an order, a client's line that was refused, or
+-- a client that the server ended.
+pub data Whose : Type 0 where
+  of_ups : (u : UpsId) → Whose
+  of_user : (u : UpsId) → (who : Who) → Whose
+  of_order : (deed : Deed) → Whose
+  of_refused : (deed : Deed) → Whose
+  of_client : (address : List ℕ) → Whose
 
-abbrev pub after_line_of : Of → Kind → Tallies → Tallies
-after_line_of (whose.Ups place) kind all = after_ups place kind all
-after_line_of (whose.User address) kind all = after_user address.now kind all
-after_line_of (whose.Order deed) kind all = after_order deed.now kind all
-after_line_of (whose.Client address) kind all = after_client address.now kind all
+abbrev pub whose_of : Of → Whose
+whose_of (whose.Ups u) = of_ups u
+whose_of (whose.User u who) = of_user u who.now
+whose_of (whose.Order deed) = of_order deed.now
+whose_of (whose.Refused deed) = of_refused deed.now
+whose_of (whose.Client address) = of_client address.now
+
+-- The UPS that a line names.
+abbrev pub name_at : UpsId → List Ups → Option (List ℕ)
+name_at u list = option_map (λ ups. ups.name) (slice_get list u.place)
+
+abbrev pub ups_of : List Ups → Whose → Option (List ℕ)
+ups_of list (of_ups u) = name_at u list
+ups_of list (of_user u who) = name_at u list
+ups_of list (of_order deed) = deed.ups
+ups_of list (of_refused deed) = deed.ups
+ups_of list (of_client address) = None
+
+abbrev pub is_line_logged : Whose → Kind → Tallies → Bool
+is_line_logged (of_ups u) kind all = is_ups_logged u.place kind all
+is_line_logged (of_user u who) kind all = is_user_logged who.address kind all
+is_line_logged (of_order deed) kind all = is_order_logged deed kind all
+is_line_logged (of_refused deed) kind all = is_client_logged deed.who.address kind all
+is_line_logged (of_client address) kind all = is_client_logged address kind all
+
+abbrev pub after_line_of : Whose → Kind → Tallies → Tallies
+after_line_of (of_ups u) kind all = after_ups u.place kind all
+after_line_of (of_user u who) kind all = after_user who.address kind all
+after_line_of (of_order deed) kind all = after_order deed kind all
+after_line_of (of_refused deed) kind all = after_client deed.who.address kind all
+after_line_of (of_client address) kind all = after_client address kind all
 
 abbrev pub first_mapped : (Tally → Tally) → ℕ → List Tally → List Tally
 first_mapped f n all = map f (take n all) ++ drop n all

@@ -2,9 +2,9 @@
 use Rattle.std.specs.Prelude.{◌≡◌, ℕ, ◌+◌, ◌-◌, ◌^◌, ◌<◌, ◌==◌, ◌&&◌, ◌||◌, Bool, List, [], ◌∷◌}
 use Rattle.std.specs.Prelude.{◌≢◌, ◌/◌, true, Option, Some, None, if◌then◌else◌, not, nat_lt, min}
 use Rattle.std.specs.Prelude.{max, ◌≤◌, length, slice_index, slice_set}
-use Rattle.std.specs.Prelude.{nat_eq, nat_le}
-use Rattle.std.specs.List.{list_any, repeat}
-use Rattle.std.specs.Option.{option_eq}
+use Rattle.std.specs.Prelude.{nat_eq, nat_le, is_some}
+use Rattle.std.specs.List.{repeat}
+use Rattle.std.specs.Option.{option_eq, option_map_or}
 use Rattle.nutjournal.specs.declared.tally.Count.{Count}
 use Rattle.nutjournal.specs.declared.tally.Kind.{Kind}
 use Rattle.nutjournal.specs.declared.tally.Kind.TheVariants as kinds
@@ -34,6 +34,7 @@ priority_of kinds.Denied = WARNING
 priority_of kinds.EmptyOrder = WARNING
 priority_of kinds.GaveWay = WARNING
 priority_of kinds.RefusedStatus = WARNING
+priority_of kinds.OrderFailed = WARNING
 priority_of kinds.Order = NOTICE
 priority_of kind = INFO
 
@@ -57,6 +58,8 @@ number kinds.EmptyOrder = 14
 number kinds.Silent = 15
 number kinds.GaveWay = 16
 number kinds.RefusedStatus = 17
+number kinds.OrderDone = 18
+number kinds.OrderFailed = 19
 
 -- A count stops at its greatest number.
 abbrev pub one_more : ℕ → ℕ
@@ -76,12 +79,15 @@ is_logged has_room y kind =
 abbrev pub count : Kind → Tally → ℕ
 count kind y = slice_index y.more (number kind)
 
--- What is not logged is counted.
+-- What is not logged is counted, and the most urgent of what is counted gives it its priority.
 abbrev pub after_line : Bool → Tally → Kind → Tally
 after_line has_room y kind =
     if is_logged has_room y kind
     then record y { lines = one_more y.lines; logged = y.logged + 1 }
-    else record y { more = slice_set y.more (number kind) (one_more (count kind y)) }
+    else record y {
+      more = slice_set y.more (number kind) (one_more (count kind y));
+      worst = Some (option_map_or (λ n. min n (priority_of kind)) y.worst (priority_of kind));
+    }
 
 -- Another minute has begun since the second in which the journal was written last.
 abbrev pub begins_minute : Option ℕ → ℕ → Bool
@@ -92,11 +98,11 @@ begins_minute (Some second) now = not (second / MINUTE == now / MINUTE)
 abbrev pub is_reported : Tally → Bool → Bool
 is_reported y is_minute = is_minute || not (is_restless y)
 
-abbrev pub nothing : List ℕ
-nothing = repeat 18 (0 ∷ [])
+abbrev pub reported : Tally → Bool → Option ℕ
+reported y is_minute = if is_reported y is_minute then y.worst else None
 
-abbrev pub reported : Tally → Bool → List ℕ
-reported y is_minute = if is_reported y is_minute then y.more else nothing
+abbrev pub nothing : List ℕ
+nothing = repeat 20 (0 ∷ [])
 
 abbrev pub after_second : Tally → Bool → Tally
 after_second y is_minute =
@@ -104,28 +110,30 @@ after_second y is_minute =
       lines = if is_minute then 0 else y.lines;
       logged = 0;
       more = if is_reported y is_minute then nothing else y.more;
+      worst = if is_reported y is_minute then None else y.worst;
     }
 
 -- Lines were counted that weren't reported yet.
 abbrev pub has_more : Tally → Bool
-has_more y = list_any (λ n. nat_lt 0 n) y.more
+has_more y = is_some y.worst
 
--- Of what no note says, what is new is logged at once, or once a minute.
+-- Of what no note says, what is new is logged, but once a minute at most.
 abbrev pub is_behind : ℕ → Count → Bool
 is_behind count was = nat_lt was.logged count
 
-abbrev pub is_counted : ℕ → Bool → ℕ → Count → Bool
-is_counted count is_held minute was =
-    is_behind count was && not (is_held && option_eq nat_eq was.minute (Some minute))
+abbrev pub is_of : ℕ → Count → Bool
+is_of minute was = option_eq nat_eq was.minute (Some minute)
 
-abbrev pub more_counted : ℕ → Bool → ℕ → Count → Option ℕ
-more_counted count is_held minute was =
-    if is_counted count is_held minute was then Some (count - was.logged) else None
+abbrev pub is_counted : ℕ → ℕ → Count → Bool
+is_counted count minute was = is_behind count was && not (is_of minute was)
 
-abbrev pub after_count : ℕ → Bool → ℕ → Count → Count
-after_count count is_held minute was =
-    if is_counted count is_held minute was
-    then record { logged = count; minute = Some minute } else was
+abbrev pub more_counted : ℕ → ℕ → Count → Option ℕ
+more_counted count minute was =
+    if is_counted count minute was then Some (count - was.logged) else None
+
+abbrev pub after_count : ℕ → ℕ → Count → Count
+after_count count minute was =
+    if is_counted count minute was then record { logged = count; minute = Some minute } else was
 
 -- A line that comes: whether the others leave it room, and its kind.
 pub record Coming : Type 0 where
@@ -157,7 +165,7 @@ times kind (next ∷ later) = one_if (is_same kind next.kind) + times kind later
 -- more are logged than the limit.
 pub record EachLineIsLoggedOrCounted : Type 0 where
   pub each : (y : Tally) (kind : Kind) (lines : List Coming)
-      → length y.more ≡ 18 → count kind y + length lines < 2 ^ 64
+      → length y.more ≡ 20 → count kind y + length lines < 2 ^ 64
       → logged_of kind y lines + count kind (after_lines y lines) ≡ count kind y + times kind lines
   pub most : (y : Tally) (lines : List Coming)
       → (after_lines y lines).logged ≤ max y.logged LINE_LIMIT

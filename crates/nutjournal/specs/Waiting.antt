@@ -1,5 +1,5 @@
 -- What is still to be logged, for which the journal asks to be called in the next second.
-use Rattle.std.specs.Prelude.{◌≡◌, ℕ, Bool, true, false, List, ◌∷◌, ◌||◌, not, if◌then◌else◌}
+use Rattle.std.specs.Prelude.{◌≡◌, ℕ, Bool, true, false, List, ◌∷◌, ◌||◌}
 use Rattle.std.specs.Prelude.{is_none, is_some, ◌&&◌}
 use Rattle.std.specs.Prelude.{take}
 use Rattle.std.specs.List.{list_any}
@@ -33,9 +33,7 @@ abbrev pub is_one_behind : List ℕ → List Count → Bool
 is_one_behind (n ∷ ns) (was ∷ weres) = is_behind n was || is_one_behind ns weres
 is_one_behind _ _ = false
 
--- or somebody was sent away of whom nothing was logged, or the record has ended since.
+-- or somebody was sent away of whom nothing was logged.
 abbrev pub are_behind : Doings → Journal → Bool
 are_behind doings j =
-    is_one_behind doings.counts j.counts
-    || (is_any_refusal_behind j.refusals
-    || (if doings.is_record_cut then not j.is_record_cut else j.is_record_cut))
+    is_one_behind doings.counts j.counts || is_any_refusal_behind j.refusals

@@ -7,6 +7,9 @@ use nutwords::Address;
 /// So many places are taken where it is logged who has them: three quarters.
 pub const CROWD: usize = 48;
 
+/// How many things are counted beside the server's notes.
+pub const COUNTED: usize = 3;
+
 /// Why a client left before its session had ended.
 #[derive(Clone, Copy)]
 pub enum Leave<'a> {
@@ -27,10 +30,9 @@ pub struct Doings<'a> {
     pub left: Option<(&'a Address, Leave<'a>)>,
     /// The newcomer that was sent away.
     pub sent_away: Option<&'a Address>,
-    /// The drivers that were cut off since the start, and how often no client could be accepted.
-    pub counts: [u64; 2],
-    /// The record of events has ended early.
-    pub is_record_cut: bool,
+    /// Since the start: the drivers that were cut off, how often no client could be accepted, and
+    /// whether the record of events has ended early.
+    pub counts: [u64; COUNTED],
 }
 
 impl Doings<'_> {

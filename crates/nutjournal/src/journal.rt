@@ -1,32 +1,41 @@
 //! The journal of the UPSs and their clients while they are served.
-ghost use Rattle.std.specs.Prelude.{◌≡◌, ◌≢◌, ◌≤◌, ◌||◌, [], length, false, true, IfOk, Some};
-ghost use Rattle.nutjournal.specs.Tally.{begins_minute};
-ghost use Rattle.nutjournal.specs.Lines.{BegunCall, DueMore, NoteMore, after_call, after_due, after_notes, due_by, kind_of_data, kind_of_refusal, kind_of_status, left_due, makes_good, of_deed};
-ghost use Rattle.nutjournal.specs.Tallies.{after_second_of};
-ghost use Rattle.std.specs.List.{list_any};
+ghost use Rattle.std.specs.Prelude.{◌≡◌, ◌≢◌, ◌≤◌, ◌<◌, ◌||◌, [], length, false, true, IfOk, None, Some};
+ghost use Rattle.nutjournal.specs.declared.doings.TheConstants.{COUNTED};
+ghost use Rattle.nutjournal.specs.Calls.{Begins, IsBegun, IsCall, after_counts, client_places, count_due, ups_places};
+ghost use Rattle.nutjournal.specs.Lines.{DueMore, DuesMore, after_due, after_dues, due_now, due_of, dues_of, drivers_after, left_due, line_of_deed};
+ghost use Rattle.nutjournal.specs.LogBuffer.{PlaceMore, PlacesMore, SomeMore};
+ghost use Rattle.nutjournal.specs.Tallies.{after_line_of, ups_of, whose_of};
+ghost use Rattle.nutjournal.specs.Tally.{after_count};
 ghost use Rattle.nutjournal.specs.Waiting.{AsksForMore, are_behind, are_none, holds};
 
-use crate::doings::{Crowd, Doings, Leave};
-use crate::drivers::{Driver, Drivers, is_any_awaited};
+use crate::doings::{COUNTED, Crowd, Doings, Leave};
+use crate::drivers::{Driver, Drivers, News, is_any_awaited};
 use crate::log_buffer::{INFO, LogBuffer, WARNING};
 use crate::refusals::{Refusal, Refusals};
 use crate::tallies::{Clients, Of, Tallies, is_any_counted};
-use crate::tally::{Count, HOUR, Kind, MINUTE, begins_minute};
-use nutargs::Said;
-use nutcommand::ErrWord;
-use nutcore::{
-    DataState, Deed, DriverFault, MaxAge, Note, SESSION_LIMIT, Server, UpsId, Verb, has_word,
+use crate::tally::{Count, HOUR, Kind, MINUTE, Tally, begins_minute};
+use crate::texts::{
+    Asked, End, Number, TrackedAs, Why, become_good, kind_of_data, kind_of_deed, kind_of_end,
+    kind_of_status, reason_of,
 };
+use nutargs::Said;
+use nutcore::{Deed, MaxAge, Note, SESSION_LIMIT, Server, UpsId, UpsList};
+use nuttracking::id_text;
 use nutwords::{Address, UpsName};
 use std::alloc::AllocError;
-use std::fmt::{self, Display, Formatter, Write};
+use std::fmt::Display;
 use std::io::Error;
 use std::mem;
 
-/// What is counted beside the server's notes, and whether a line of it comes once a minute at most.
-const COUNTED: [(&str, bool); 2] = [
+/// What is counted beside the server's notes, and whether a line of it has the number. What
+/// happens once has none.
+const COUNTS: [(&str, bool); COUNTED] = [
     ("drivers cut off, out of memory or by an endless line", true),
     ("clients not accepted, without a descriptor or memory", true),
+    (
+        "the record has ended, at its limit or by a failed write",
+        false,
+    ),
 ];
 
 /// The lines on their way out, and what was logged of the things that aren't logged each time.
@@ -39,11 +48,10 @@ pub struct Journal {
     drivers: Drivers,
     /// The greatest age, in seconds.
     max_age: u64,
-    counts: [Count; 2],
+    counts: [Count; COUNTED],
     refusals: Refusals,
     /// The hour in which it was logged last who has the places.
     crowded: Option<u64>,
-    is_record_cut: bool,
     /// Something is to be logged in the next second, or later.
     has_more: bool,
 }
@@ -64,17 +72,16 @@ impl Journal {
     {
         let mut log = LogBuffer::new(rt, has_priorities)?;
         let line = "standard error may stop the server: a terminal that its user may not open";
-        log.add_if(log.may_wait(rt), WARNING, None, &line);
+        log.add_due(log.may_wait(rt).then_some(WARNING), None, &line);
         Ok(Journal {
             log,
             moment: None,
             tallies: Tallies::new(),
             drivers: [Driver::default(); 256],
             max_age: u64::from(max_age.seconds()),
-            counts: [Count::default(); 2],
+            counts: [Count::default(); COUNTED],
             refusals: Refusals::default(),
             crowded: None,
-            is_record_cut: false,
             has_more: true,
         })
     }
@@ -86,6 +93,7 @@ impl Journal {
     ///
     /// `error_of` gives the number of the system's error by which the driver of a UPS couldn't be
     /// connected to. `crowd` says who has the places, where three quarters of them are taken.
+    #[tactic(auto, using(crate::proofs::Calls::one_call, crate::proofs::Calls::no_call))]
     pub fn write<E: Fn(UpsId) -> Option<i32>, C: Fn() -> Option<Crowd>>(
         &mut self,
         rt: &HostRuntime,
@@ -103,32 +111,46 @@ impl Journal {
             → AsksForMore (length server.now.state.list) self.new }
         ensures more { result
             ≡ (self.new.has_more || are_behind doings.entry self.new) }
-        ensures goes_on { self.old.moment ≡ Some server.now.state.moment
-            → self.new.tallies ≡ after_call server.now.state.moment server.now.notes doings.entry
-            self.old.drivers self.old.tallies }
-        ensures begins { self.old.moment ≢ Some server.now.state.moment
-            → BegunCall server.now.state.moment server.now.notes doings.entry
-            (after_second_of (length server.now.state.list)
-            (begins_minute self.old.moment server.now.state.moment) self.old.tallies)
-            self.new.tallies }
+        ensures call { IsCall server.now.state server.now.notes doings.entry self.old self.new }
     {
-        let moment = Some(server.current_moment());
-        let was = mem::replace(&mut self.moment, moment);
-        if was != moment {
-            let is_minute = begins_minute(was, server.current_moment());
-            self.log_drivers(server, is_minute, error_of);
-            self.log_counts(server.current_moment() / MINUTE, is_minute, doings);
-            self.log_crowd(server.current_moment() / HOUR, crowd);
-            self.tallies.next_second(server.ups().len(), is_minute);
-        } else if server.notes().is_empty() && doings.are_none() {
+        let is_begun = self.begin(server, error_of, crowd, doings);
+        if !is_begun && server.notes().is_empty() && doings.are_none() {
             return self.has_more || self.is_behind(doings);
         }
         self.log_notes(server, doings.left);
-        self.log_doings(doings);
+        self.log_doings(server, doings);
         self.log.flush(rt);
         let is_new = !server.notes().is_empty() || !doings.are_none();
         self.has_more = is_new || self.holds(server.ups().len());
         self.has_more || self.is_behind(doings)
+    }
+
+    /// Where a second begins, logs what was counted, and what is new in the counts and of the
+    /// drivers. Whether one does.
+    #[tactic(auto, using(crate::proofs::Calls::begins_now))]
+    fn begin<E: Fn(UpsId) -> Option<i32>, C: Fn() -> Option<Crowd>>(
+        &mut self,
+        server: &Server,
+        error_of: E,
+        crowd: C,
+        doings: Doings<'_>,
+    ) -> bool
+        requires errors { E.IsAlwaysCallable error_of }
+        requires crowds { C.IsAlwaysCallable crowd }
+        ensures moment { self.new.moment ≡ Some server.now.state.moment }
+        ensures goes_on { result ≡ false → self.new ≡ self.old }
+        ensures begun { Begins server.now.state doings.entry self.old self.new }
+    {
+        let now = server.current_moment();
+        if self.moment == Some(now) {
+            return false;
+        }
+        let is_minute = begins_minute(self.moment, now);
+        self.moment = Some(now);
+        self.begin_second(server, is_minute, doings);
+        self.log_drivers(server, error_of);
+        self.log_crowd(now / HOUR, crowd);
+        true
     }
 
     /// Whether something is still to be logged: lines that wait, what was counted of one of so many
@@ -144,83 +166,81 @@ impl Journal {
             || is_any_awaited(&self.drivers[..count])
     }
 
-    /// Whether one of these counts is more than what was logged of it, somebody was sent away of
-    /// whom nothing was logged, or the record has ended since.
+    /// Whether one of these counts is more than what was logged of it, or somebody was sent away of
+    /// whom nothing was logged.
     fn is_behind(&self, doings: Doings<'_>) -> bool
         ensures { result ≡ are_behind doings.entry self.now }
     {
-        for place in 0..COUNTED.len() {
+        for place in 0..COUNTED {
             if self.counts[place].is_behind(doings.counts[place]) {
                 return true;
             }
         }
-        self.refusals.is_any_behind() || doings.is_record_cut != self.is_record_cut
+        self.refusals.is_any_behind()
     }
 
-    /// Logs what is new in this second of the drivers, and what was counted of them, where a minute
-    /// begins also of those that were lost too often. A driver that hasn't reported everything
-    /// within the greatest age is logged as stale.
-    fn log_drivers<E: Fn(UpsId) -> Option<i32>>(
-        &mut self,
-        server: &Server,
-        is_minute: bool,
-        error_of: E,
-    )
-        requires { E.IsAlwaysCallable error_of }
-        ensures moment { self.new.moment ≡ self.old.moment }
-        ensures tallies { self.new.tallies ≡ self.old.tallies }
+    /// Logs what was counted of the UPSs and the addresses, of which that is due, then what is new in
+    /// the counts and of the newcomers that were sent away.
+    fn begin_second(&mut self, server: &Server, is_minute: bool, doings: Doings<'_>)
+        ensures { IsBegun server.now.state is_minute doings.entry self.old self.new }
     {
-        let (log, drivers, tallies) = (&mut self.log, &mut self.drivers, &self.tallies);
+        let (list, minute) = (server.ups(), server.current_moment() / MINUTE);
+        log_upses(
+            &mut self.log,
+            server,
+            &self.tallies.upses,
+            &self.drivers,
+            is_minute,
+        );
+        log_more(&mut self.log, &self.tallies.users, is_minute);
+        log_more(&mut self.log, &self.tallies.clients, is_minute);
+        self.tallies.next_second(list.len(), is_minute);
+        log_counts(&mut self.log, &mut self.counts, doings.counts, minute);
+        log_refusals(&mut self.log, &mut self.refusals, minute);
+    }
+
+    /// Logs what is new in this second of the drivers. One that hasn't reported everything within
+    /// the greatest age is logged as stale.
+    #[tactic(auto, using(crate::proofs::Places::none_more, crate::proofs::Places::then_some))]
+    fn log_drivers<E: Fn(UpsId) -> Option<i32>>(&mut self, server: &Server, error_of: E)
+        requires { E.IsAlwaysCallable error_of }
+        ensures log { SomeMore self.old.log self.new.log }
+        ensures same { self.new
+            ≡ record self.old { log = self.new.log; drivers = self.new.drivers } }
+    {
         for place in 0..server.ups().len() {
             let u = UpsId { place: place as u8 };
-            let (ups, driver) = (server.ups().name(u), &mut drivers[place]);
-            let more = tallies.upses[place].reported(is_minute);
-            if let Some(priority) = more.priority() {
-                let (state, _, _) = kind_of_data(driver.state).row();
-                let status = server.status(u).unwrap_or(b"").escape_ascii();
-                let line = format_args!("more lines: {more}; now {state}, status {status}");
-                log.add(priority, ups, &line);
-            }
             let moment = server.current_moment();
-            let news = driver.next_second(error_of(u), moment, self.max_age);
-            let (count, fault) = news.refused;
-            let why = Why(fault);
-            let line = format_args!("lines of the driver refused: {count}, the last one: {why}");
-            log.add_if(count > 0, INFO, ups, &line);
-            let error = Said(Error::from_raw_os_error(news.error.unwrap_or(0)));
-            let line = format_args!("cannot connect: {error}");
-            log.add_if(news.error.is_some(), WARNING, ups, &line);
-            log.add_if(news.is_late, WARNING, ups, &"data stale");
+            let news = self.drivers[place].next_second(error_of(u), moment, self.max_age);
+            self.log_news(server.ups().name(u), news);
         }
     }
 
-    /// Logs what was counted of the clients, what is new in the counts and of the newcomers that
-    /// were sent away, and the end of the record.
-    fn log_counts(&mut self, minute: u64, is_minute: bool, doings: Doings<'_>)
-        ensures moment { self.new.moment ≡ self.old.moment }
-        ensures tallies { self.new.tallies ≡ self.old.tallies }
+    /// Logs what a second has of a driver.
+    #[tactic(auto, using(crate::proofs::Places::three_more))]
+    fn log_news(&mut self, ups: Option<&UpsName>, news: News)
+        ensures log { SomeMore self.old.log self.new.log }
+        ensures same { self.new ≡ record self.old { log = self.new.log } }
     {
-        let (log, tallies) = (&mut self.log, &self.tallies);
-        log_more(log, &tallies.users, is_minute);
-        log_more(log, &tallies.clients, is_minute);
-        for place in 0..COUNTED.len() {
-            let (what, is_held) = COUNTED[place];
-            if let Some(count) = self.counts[place].more(doings.counts[place], is_held, minute) {
-                log.add(WARNING, None, &format_args!("{what}: {count}"));
-            }
-        }
-        log_refusals(log, &mut self.refusals, minute);
-        let is_cut = doings.is_record_cut;
-        let due = mem::replace(&mut self.is_record_cut, is_cut) != is_cut;
-        let line = "the record has ended, at its limit or by a failed write";
-        log.add_if(due, WARNING, None, &line);
+        let (count, fault) = news.refused;
+        let why = Why(fault);
+        let line = format_args!("lines of the driver refused: {count}, the last one: {why}");
+        self.log.add_due((count > 0).then_some(INFO), ups, &line);
+        let error = Said(Error::from_raw_os_error(news.error.unwrap_or(0)));
+        let line = format_args!("cannot connect: {error}");
+        self.log
+            .add_due(news.error.is_some().then_some(WARNING), ups, &line);
+        self.log
+            .add_due(news.is_late.then_some(WARNING), ups, &"data stale");
     }
 
     /// Logs once an hour who has the places, where three quarters of them are taken.
+    #[tactic(auto, using(crate::proofs::Places::line_more, crate::proofs::Places::none_more))]
     fn log_crowd<C: Fn() -> Option<Crowd>>(&mut self, hour: u64, crowd: C)
         requires { C.IsAlwaysCallable crowd }
-        ensures moment { self.new.moment ≡ self.old.moment }
-        ensures tallies { self.new.tallies ≡ self.old.tallies }
+        ensures log { SomeMore self.old.log self.new.log }
+        ensures same { self.new
+            ≡ record self.old { log = self.new.log; crowded = self.new.crowded } }
     {
         if self.crowded == Some(hour) {
             return;
@@ -243,9 +263,14 @@ impl Journal {
     }
 
     /// Logs that a client was ended for its silence, or counts it, and counts who was sent away.
-    fn log_doings(&mut self, doings: Doings<'_>)
-        ensures moment { self.new.moment ≡ self.old.moment }
-        ensures tallies { self.new.tallies ≡ after_due (left_due doings.entry) self.old.tallies }
+    fn log_doings(&mut self, server: &Server, doings: Doings<'_>)
+        ensures due { DueMore server.now.state.list (left_due doings.entry) self.old.tallies
+            self.old.log self.new.log }
+        ensures same { self.new ≡ record self.old {
+          log = self.new.log;
+          tallies = after_due (left_due doings.entry) self.old.tallies;
+          refusals = self.new.refusals;
+        } }
     {
         if let Some(address) = doings.sent_away {
             self.refusals.add(address);
@@ -253,36 +278,47 @@ impl Journal {
         let Some((address, leave)) = doings.left else {
             return;
         };
-        let (of, address) = (Of::Client(address), address.as_bytes().escape_ascii());
+        let (list, of) = (server.ups(), Of::Client(address));
         match leave {
             Leave::Silent(seconds) => {
-                let line = format_args!("{address} silent for {seconds} s: closed");
-                self.log(of, Kind::Silent, None, &line);
+                let line = format_args!("silent for {seconds} s: closed");
+                self.log(list, of, Kind::Silent, &line);
             }
             Leave::GaveWay(to, seconds) => {
                 let to = to.as_bytes().escape_ascii();
-                let line = format_args!("{address} gave way to {to} after {seconds} s of silence");
-                self.log(of, Kind::GaveWay, None, &line);
+                let line = format_args!("gave way to {to} after {seconds} s of silence");
+                self.log(list, of, Kind::GaveWay, &line);
             }
             Leave::Ended | Leave::Failed => {}
         }
     }
 
-    /// Logs a line of this kind, which names the UPS if there is one, or counts it.
-    #[tactic(auto, using(crate::proofs::Due::one_due))]
-    fn log<D: Display>(&mut self, of: Of<'_>, kind: Kind, ups: Option<&UpsName>, line: &D)
-        ensures { DueMore (due_by of.entry kind) self.old self.new }
+    /// Logs a line of this kind, or counts it. It names the UPS, and whose it is.
+    fn log<D: Display>(&mut self, list: &UpsList, of: Of<'_>, kind: Kind, line: &D)
+        ensures log { PlaceMore (due_now (whose_of of.entry) kind self.old.tallies)
+            (ups_of list.now (whose_of of.entry)) self.old.log self.new.log }
+        ensures same { self.new ≡ record self.old {
+          log = self.new.log;
+          tallies = after_line_of (whose_of of.entry) kind self.old.tallies;
+        } }
     {
-        let due = self.tallies.takes(of, kind);
-        self.log.add_if(due, kind.row().1, ups, line);
+        let due = self.tallies.takes(of, kind).then_some(kind.row().1);
+        self.log
+            .add_due(due, of.ups(list), &format_args!("{of}{line}"));
     }
 
     /// Logs the notes of the server's last event, or counts them.
     fn log_notes(&mut self, server: &Server, left: Option<(&Address, Leave<'_>)>)
-        ensures moment { self.new.moment ≡ self.old.moment }
-        ensures tallies { self.new.tallies
-            ≡ after_notes server.now.state.moment server.now.notes self.old.drivers
-            self.old.tallies }
+        ensures log { DuesMore server.now.state.list
+            (dues_of server.now.state.moment server.now.notes self.old.drivers)
+            self.old.tallies self.old.log self.new.log }
+        ensures same { self.new ≡ record self.old {
+          log = self.new.log;
+          drivers = self.new.drivers;
+          tallies = after_dues
+              (dues_of server.now.state.moment server.now.notes self.old.drivers)
+              self.old.tallies;
+        } }
     {
         for note in server.notes() {
             self.log_note(server, note, left);
@@ -290,11 +326,18 @@ impl Journal {
     }
 
     /// Logs a note of the server, or counts it.
-    #[tactic(auto, using(crate::proofs::Due::none_due))]
     fn log_note(&mut self, server: &Server, note: &Note, left: Option<(&Address, Leave<'_>)>)
-        ensures { NoteMore server.now.state.moment server.now.notes note.now self.old self.new }
+        ensures due { DueMore server.now.state.list
+            (due_of server.now.notes note.now self.old.drivers) self.old.tallies
+            self.old.log self.new.log }
+        ensures same { self.new ≡ record self.old {
+          log = self.new.log;
+          drivers = drivers_after server.now.state.moment note.now self.old.drivers;
+          tallies = after_due (due_of server.now.notes note.now self.old.drivers)
+              self.old.tallies;
+        } }
     {
-        let name = |u: &UpsId| server.ups().name(*u);
+        let list = server.ups();
         match note {
             Note::Data(u, state) => {
                 let driver = &mut self.drivers[u.place as usize];
@@ -302,14 +345,13 @@ impl Journal {
                 let is_first = driver.turn(*state, server.current_moment());
                 if !is_first || !become_good(server.notes(), *u) {
                     let kind = kind_of_data(*state);
-                    self.log(Of::Ups(u.place), kind, name(u), &kind.row().0);
+                    self.log(list, Of::Ups(*u), kind, &kind.row().0);
                 }
             }
             Note::StatusChanged(u, Some(status)) => {
                 let kind = kind_of_status(status.as_bytes());
                 let status = status.as_bytes().escape_ascii();
-                let line = format_args!("status {status}");
-                self.log(Of::Ups(u.place), kind, name(u), &line);
+                self.log(list, Of::Ups(*u), kind, &format_args!("status {status}"));
             }
             // The loss of a driver has a line of its own; a status that it takes away has none.
             Note::StatusChanged(_, None) => {}
@@ -318,86 +360,122 @@ impl Journal {
                 if let Some(shown) = shown {
                     let (why, shown) = (Why(*fault), shown.escape_ascii());
                     let line = format_args!("line of the driver refused ({why}): {shown}");
-                    self.log(Of::Ups(u.place), Kind::RefusedStatus, name(u), &line);
+                    self.log(list, Of::Ups(*u), Kind::RefusedStatus, &line);
                 }
             }
-            Note::OrderEnded(_, _, _) => {}
+            Note::OrderEnded(u, id, number) => {
+                let (id, end) = (id_text(*id), End(*number));
+                let line = format_args!("order {} {end}", id.escape_ascii());
+                self.log(list, Of::Ups(*u), kind_of_end(*number), &line);
+            }
             Note::LoggedIn(u, who) => {
-                let of = Of::User(&who.address);
-                let line = format_args!("{who} logged in");
-                self.log(of, Kind::LoggedIn, name(u), &line);
+                self.log(list, Of::User(*u, who), Kind::LoggedIn, &"logged in");
             }
             Note::LoggedOut(u, who) => {
-                let of = Of::User(&who.address);
-                let line = format_args!("{who} logged out: {}", reason_of(left));
-                self.log(of, Kind::LoggedOut, name(u), &line);
+                let line = format_args!("logged out: {}", reason_of(left));
+                self.log(list, Of::User(*u, who), Kind::LoggedOut, &line);
             }
-            Note::Did(deed) => self.log_deed(deed),
+            Note::Did(deed) => self.log_deed(list, deed),
         }
     }
 
     /// Logs what a line of a client did, or counts it.
-    fn log_deed(&mut self, deed: &Deed)
-        ensures { DueMore (of_deed deed.now) self.old self.new }
+    fn log_deed(&mut self, list: &UpsList, deed: &Deed)
+        ensures due { DueMore list.now (Some (line_of_deed deed.now)) self.old.tallies
+            self.old.log self.new.log }
+        ensures same { self.new ≡ record self.old {
+          log = self.new.log;
+          tallies = after_due (Some (line_of_deed deed.now)) self.old.tallies;
+        } }
     {
-        let command = match deed.verb {
-            Verb::Login => "LOGIN",
-            Verb::Primary => "PRIMARY",
-            Verb::Fsd => "FSD",
-            Verb::SetVar => "SET VAR",
-            Verb::InstCmd => "INSTCMD",
-        };
-        let (order, ups) = (Of::Order(deed), deed.ups.as_ref());
-        let who = &deed.who;
-        let name = deed.name.as_ref();
-        let name = name.map_or(b"".as_slice(), |name| name.as_bytes());
-        let (space, name) = (if name.is_empty() { "" } else { " " }, name.escape_ascii());
-        match (deed.refusal, deed.verb) {
-            (None, Verb::Fsd) => {
-                let line = format_args!("{who} ordered {command}: forced shutdown");
-                self.log(order, Kind::ForcedShutdown, ups, &line);
-            }
-            (None, _) if deed.has_empty_value => {
-                let line = format_args!("{who} ordered {command}{space}{name} with an empty value");
-                self.log(order, Kind::EmptyOrder, ups, &line);
-            }
-            (None, _) => {
-                let line = format_args!("{who} ordered {command}{space}{name}");
-                self.log(order, Kind::Order, ups, &line);
-            }
-            (Some(word), verb) => {
-                let kind = kind_of_refusal(verb, word);
-                let word = word.spelling().escape_ascii();
-                let line = format_args!("{who} was refused {command}{space}{name}: {word}");
-                self.log(Of::Client(&deed.who.address), kind, ups, &line);
-            }
+        let (kind, asked) = (kind_of_deed(deed), Asked(deed));
+        if let Some(word) = deed.refusal {
+            let word = word.spelling().escape_ascii();
+            let line = format_args!("was refused {asked}: {word}");
+            self.log(list, Of::Refused(deed), kind, &line);
+        } else {
+            let end = match kind {
+                Kind::ForcedShutdown => ": forced shutdown",
+                Kind::EmptyOrder => " with an empty value",
+                _ => "",
+            };
+            let id = TrackedAs(deed.tracking_id);
+            self.log(
+                list,
+                Of::Order(deed),
+                kind,
+                &format_args!("ordered {asked}{end}{id}"),
+            );
         }
     }
 }
 
-/// Whether the data of the UPS become good by these notes.
-fn become_good(notes: &[Note], u: UpsId) -> bool
-    ensures { result ≡ list_any (makes_good u.place) notes.now }
+/// Logs what was counted of the UPSs, of which that is due.
+fn log_upses(
+    log: &mut LogBuffer,
+    server: &Server,
+    tallies: &[Tally; 256],
+    drivers: &Drivers,
+    is_minute: bool,
+)
+    ensures { PlacesMore (ups_places is_minute server.now.state.list tallies.now) log.old log.new }
 {
-    let of = u.place;
-    let is_good = |note: &Note| matches!(note, Note::Data(v, DataState::Good) if v.place == of);
-    notes.iter().any(is_good)
+    for place in 0..server.ups().len() {
+        let (u, tally) = (UpsId { place: place as u8 }, &tallies[place]);
+        let (state, _, _) = kind_of_data(drivers[place].state).row();
+        let status = server.status(u).unwrap_or(b"").escape_ascii();
+        let line = format_args!("more lines: {tally}; now {state}, status {status}");
+        log.add_due(tally.reported(is_minute), server.ups().name(u), &line);
+    }
+}
+
+/// Logs what is new in the counts.
+#[tactic(auto, using(crate::proofs::Calls::one_counted, crate::proofs::Calls::one_more_some, crate::proofs::Places::none_more))]
+fn log_counts(
+    log: &mut LogBuffer,
+    weres: &mut [Count; COUNTED],
+    counts: [u64; COUNTED],
+    minute: u64,
+)
+    ensures log { SomeMore log.old log.new }
+    ensures after { weres.new ≡ after_counts minute counts weres.old }
+{
+    for place in 0..COUNTED {
+        log_count(log, &mut weres[place], place, counts[place], minute);
+    }
+}
+
+/// Logs what is new in a count.
+fn log_count(log: &mut LogBuffer, was: &mut Count, place: usize, count: u64, minute: u64)
+    requires { place < COUNTED }
+    ensures log { PlaceMore (count_due count minute was.old) None log.old log.new }
+    ensures after { was.new ≡ after_count count minute was.old }
+{
+    let (what, has_number) = COUNTS[place];
+    let more = was.more(count, minute);
+    let number = Number(if has_number { more } else { None });
+    log.add_due(more.map(|_| WARNING), None, &format_args!("{what}{number}"));
 }
 
 /// Logs what was counted of each address, of which that is due.
-fn log_more(log: &mut LogBuffer, clients: &Clients, is_minute: bool) {
-    for place in 0..=clients.addresses.len() {
-        let more = clients.tallies[place].reported(is_minute);
-        let address = clients.address(place).escape_ascii();
-        if let Some(priority) = more.priority() {
-            let line = format_args!("more lines of {address}: {more}");
-            log.add(priority, None, &line);
-        }
+fn log_more(log: &mut LogBuffer, clients: &Clients, is_minute: bool)
+    ensures { PlacesMore (client_places is_minute clients.now) log.old log.new }
+{
+    for place in 0..clients.addresses.len() + 1 {
+        let (tally, address) = (
+            &clients.tallies[place],
+            clients.address(place).escape_ascii(),
+        );
+        let line = format_args!("more lines of {address}: {tally}");
+        log.add_due(tally.reported(is_minute), None, &line);
     }
 }
 
 /// Logs of each address whose newcomers were sent away how many there were, once a minute.
-fn log_refusals(log: &mut LogBuffer, refusals: &mut Refusals, minute: u64) {
+#[tactic(auto, using(crate::proofs::Places::none_more, crate::proofs::Places::then_some))]
+fn log_refusals(log: &mut LogBuffer, refusals: &mut Refusals, minute: u64)
+    ensures { SomeMore log.old log.new }
+{
     let Refusals { list, others } = refusals;
     for refusal in list.iter_mut() {
         log_refusal(log, refusal, minute);
@@ -406,74 +484,16 @@ fn log_refusals(log: &mut LogBuffer, refusals: &mut Refusals, minute: u64) {
     refusals.forget(minute);
 }
 
-fn log_refusal(log: &mut LogBuffer, refusal: &mut Refusal, minute: u64) {
-    let Some((address, count)) = refusal.more(minute) else {
-        return;
-    };
-    let address = address.escape_ascii();
-    log.add(
-        WARNING,
-        None,
-        &format_args!("sent away: {address}: {count}"),
-    );
-}
-
-/// Why a line of a driver was refused: none where it reported on an order that isn't awaited.
-#[derive(Clone, Copy)]
-struct Why(Option<DriverFault>);
-
-impl Display for Why {
-    fn fmt<W: Write>(&self, f: &mut Formatter<W>) -> fmt::Result {
-        match self.0 {
-            Some(fault) => write!(f, "{fault}"),
-            None => f.write_str("no such order"),
-        }
-    }
-}
-
-/// Why a client is logged out: it left so, or its session ended by itself.
-fn reason_of(left: Option<(&Address, Leave<'_>)>) -> &'static str {
-    match left {
-        None => "LOGOUT, or a line too long",
-        Some((_, Leave::Ended)) => "its connection ended",
-        Some((_, Leave::Failed)) => "its connection failed",
-        Some((_, Leave::Silent(_))) => "it was silent",
-        Some((_, Leave::GaveWay(_, _))) => "it gave way",
-    }
-}
-
-/// What is logged of a refusal: it is a warning where a machine that is to learn of a shutdown, or
-/// to order one, has no right to, or names no UPS.
-fn kind_of_refusal(verb: Verb, word: ErrWord) -> Kind
-    ensures { result ≡ kind_of_refusal verb word }
+#[tactic(auto, using(crate::proofs::Places::line_more, crate::proofs::Places::none_more))]
+fn log_refusal(log: &mut LogBuffer, refusal: &mut Refusal, minute: u64)
+    ensures { SomeMore log.old log.new }
 {
-    let is_denied = matches!(word, ErrWord::AccessDenied | ErrWord::UnknownUps);
-    match verb {
-        Verb::Login | Verb::Primary | Verb::Fsd if is_denied => Kind::Denied,
-        Verb::Login => Kind::RefusedLogin,
-        _ => Kind::RefusedOrder,
-    }
-}
-
-/// What is logged of data of this state.
-fn kind_of_data(state: DataState) -> Kind
-    ensures { result ≡ kind_of_data state }
-{
-    match state {
-        DataState::Lost => Kind::Lost,
-        DataState::Awaited => Kind::Awaited,
-        DataState::Good => Kind::Good,
-        DataState::Stale => Kind::Stale,
-    }
-}
-
-/// What is logged of a status: it is an alarm on battery (OB) or with a low battery (LB).
-fn kind_of_status(status: &[u8]) -> Kind
-    ensures { result ≡ kind_of_status status.now }
-{
-    match (has_word(status, b"OB"), has_word(status, b"LB")) {
-        (true, true) => Kind::LowBattery,
-        (false, false) => Kind::Status,
-        _ => Kind::Alarm,
+    if let Some((address, count)) = refusal.more(minute) {
+        let address = address.escape_ascii();
+        log.add(
+            WARNING,
+            None,
+            &format_args!("sent away: {address}: {count}"),
+        );
     }
 }

@@ -10,6 +10,7 @@ mod log_buffer;
 mod refusals;
 mod tallies;
 mod tally;
+mod texts;
 
-pub use doings::{CROWD, Crowd, Doings, Leave};
+pub use doings::{COUNTED, CROWD, Crowd, Doings, Leave};
 pub use journal::Journal;

@@ -1,7 +1,7 @@
 //! The lines of the journal on their way to standard error. It may be a pipe or a terminal that
 //! nobody reads, so no write waits.
-ghost use Rattle.std.specs.Prelude.{◌≡◌, [], IfOk};
-ghost use Rattle.nutjournal.specs.LogBuffer.{CountsDropped, IsWritten, MoreIf, OneLineMore, after_line, has_waiting, room_for};
+ghost use Rattle.std.specs.Prelude.{◌≡◌, ◌≤◌, [], IfOk, length, option_copied};
+ghost use Rattle.nutjournal.specs.LogBuffer.{CountsDropped, IsFlushed, IsWritten, OneLineMore, PlaceMore, after_line, has_waiting, line_about, mark, room_for};
 
 use arrayvec::ArrayString;
 use libc::STDERR_FILENO;
@@ -77,33 +77,45 @@ impl LogBuffer {
     /// dropped and counted. So are those after it that aren't more urgent, until the count is
     /// logged. Takes no memory.
     pub fn add<D: Display>(&mut self, priority: u8, ups: Option<&UpsName>, line: &D)
-        ensures { OneLineMore priority self.old self.new }
+        ensures { OneLineMore priority (option_copied ups.entry) self.old self.new }
     {
         let mut text = ArrayString::<LINE_LIMIT>::new();
-        if self.has_priorities {
-            let _ = write!(text, "<{priority}>");
-        }
-        let name = ups.map_or(b"".as_slice(), |ups| ups.as_bytes());
-        let colon = if name.is_empty() { "" } else { ": " };
-        let _ = write!(text, "upsd: {}{colon}{line}", name.escape_ascii());
-        self.add_line(priority, text.as_bytes());
+        let _ = write!(text, "{line}");
+        self.add_line(priority, ups, text.as_bytes());
     }
 
-    /// Adds a line, where it is due.
-    pub fn add_if<D: Display>(&mut self, due: bool, priority: u8, ups: Option<&UpsName>, line: &D)
-        ensures { MoreIf due priority self.old self.new }
+    /// Adds a line, where it is due by this priority.
+    pub fn add_due<D: Display>(&mut self, due: Option<u8>, ups: Option<&UpsName>, line: &D)
+        ensures { PlaceMore due (option_copied ups.entry) self.old self.new }
     {
-        if due {
+        if let Some(priority) = due {
             self.add(priority, ups, line);
         }
     }
 
-    /// Adds a line with its LF, or counts it as dropped.
-    fn add_line(&mut self, priority: u8, line: &[u8])
-        ensures { self.new ≡ after_line priority line.now self.old }
+    /// Adds a line with its LF, behind its priority, the program and the UPS, or counts it as
+    /// dropped.
+    fn add_line(&mut self, priority: u8, ups: Option<&UpsName>, text: &[u8])
+        requires { length text.now ≤ LINE_LIMIT }
+        ensures { self.new ≡ after_line priority
+            (line_about self.old.has_priorities priority (option_copied ups.entry) text.now) self.old }
     {
-        if priority < self.worst && self.waiting.len() + line.len() < room_for(priority) {
-            self.waiting.push(line);
+        let mark = if self.has_priorities {
+            mark(priority)
+        } else {
+            b""
+        };
+        let (name, colon) = match ups {
+            Some(ups) => (ups.as_bytes(), b": ".as_slice()),
+            None => (b"".as_slice(), b"".as_slice()),
+        };
+        let count = mark.len() + PROGRAM.len() + name.len() + colon.len() + text.len();
+        if priority < self.worst && self.waiting.len() + count < room_for(priority) {
+            self.waiting.push(mark);
+            self.waiting.push(PROGRAM);
+            self.waiting.push(name);
+            self.waiting.push(colon);
+            self.waiting.push(text);
             self.waiting.push(b"\n");
         } else {
             self.dropped = self.dropped.saturating_add(1);
@@ -119,7 +131,10 @@ impl LogBuffer {
     }
 
     /// Writes what waits, as far as standard error takes it without waiting.
-    pub fn flush(&mut self, rt: &HostRuntime) {
+    #[tactic(auto, using(crate::proofs::Places::flushed, crate::proofs::Places::only_counted))]
+    pub fn flush(&mut self, rt: &HostRuntime)
+        ensures { IsFlushed self.old self.new }
+    {
         for _ in 0..=LOG_LIMIT / PIECE_LIMIT {
             self.count_dropped();
             if self.waiting.len() == 0 || !takes_bytes() {
@@ -145,6 +160,21 @@ impl LogBuffer {
             let line = format_args!("{count} lines of the journal were dropped");
             self.add(worst, None, &line);
         }
+    }
+}
+
+/// What each line begins with.
+const PROGRAM: &[u8] = b"upsd: ";
+
+/// A priority as a line begins with it.
+fn mark(priority: u8) -> &'static [u8]
+    ensures { result.now ≡ mark priority }
+{
+    match priority {
+        CRITICAL => b"<2>",
+        WARNING => b"<4>",
+        NOTICE => b"<5>",
+        _ => b"<6>",
     }
 }
 

@@ -33,7 +33,7 @@ impl Refusal {
     /// The address, and how many there are since some were logged, where that is logged now: once a
     /// minute.
     pub fn more(&mut self, minute: u64) -> Option<(&[u8], u64)> {
-        let more = self.logged.more(self.count, true, minute)?;
+        let more = self.logged.more(self.count, minute)?;
         let address = self.address.as_ref();
         let address = address.map_or(b"other addresses".as_slice(), |own| own.as_bytes());
         Some((address, more))

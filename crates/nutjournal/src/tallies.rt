@@ -1,14 +1,15 @@
 //! The tallies of all UPSs, of what users did, and of what any client may cause.
-ghost use Rattle.std.specs.Prelude.{◌≡◌, ◌≤◌, ◌&&◌, map};
+ghost use Rattle.std.specs.Prelude.{◌≡◌, ◌≤◌, ◌&&◌, map, option_copied};
 ghost use Rattle.std.specs.List.{list_any};
 ghost use Rattle.nutjournal.specs.Tally.{after_second, has_more, is_logged};
-ghost use Rattle.nutjournal.specs.Tallies.{after_address, after_line_of, after_second_of, clients_after_second, is, is_first_order, is_known, is_line_logged, is_order_of, order_of, place_of, tally_of_address, with_address, with_order};
+ghost use Rattle.nutjournal.specs.Tallies.{after_address, after_client, after_line_of, after_second_of, clients_after_second, is, is_client_logged, is_first_order, is_known, is_line_logged, is_order_of, order_of, place_of, tally_of_address, ups_of, whose_of, with_address, with_order};
 
 use crate::tally::{Kind, Tally};
 use arrayvec::ArrayVec;
-use nutcore::{Deed, Verb};
+use nutcore::{Deed, UpsId, UpsList, Verb, Who};
 use nutusers::UserName;
 use nutwords::{Address, Name, UpsName};
+use std::fmt::{self, Display, Formatter, Write};
 
 /// The most addresses that have a tally of their own. All others have one together, the last one.
 pub const ADDRESS_COUNT: usize = 64;
@@ -21,14 +22,44 @@ pub const ORDER_COUNT: usize = 64;
 /// a password for them.
 pub const REFUSAL_LIMIT: u64 = 30;
 
-/// What a line is of: the UPS of a place; what a user did at an address, or ordered; or what any
-/// client of an address may cause.
+/// What a line is of.
 #[derive(Clone, Copy)]
 pub enum Of<'a> {
-    Ups(u8),
-    User(&'a Address),
+    /// A UPS.
+    Ups(UpsId),
+    /// What a user did at a UPS.
+    User(UpsId, &'a Who),
+    /// An order that was granted.
     Order(&'a Deed),
+    /// A line of a client that was refused.
+    Refused(&'a Deed),
+    /// A client that the server ended.
     Client(&'a Address),
+}
+
+impl<'a> Of<'a> {
+    /// The UPS that the line names.
+    pub fn ups(self, list: &'a UpsList) -> Option<&'a UpsName>
+        ensures { option_copied result ≡ ups_of list.now (whose_of self.entry) }
+    {
+        match self {
+            Of::Ups(u) | Of::User(u, _) => list.name(u),
+            Of::Order(deed) | Of::Refused(deed) => deed.ups.as_ref(),
+            Of::Client(_) => None,
+        }
+    }
+}
+
+/// Who did what the line says, with a blank.
+impl Display for Of<'_> {
+    fn fmt<W: Write>(&self, f: &mut Formatter<W>) -> fmt::Result {
+        match self {
+            Of::Ups(_) => Ok(()),
+            Of::User(_, who) => write!(f, "{who} "),
+            Of::Order(deed) | Of::Refused(deed) => write!(f, "{} ", deed.who),
+            Of::Client(address) => write!(f, "{} ", address.as_bytes().escape_ascii()),
+        }
+    }
 }
 
 /// The lines of this second and of this minute.
@@ -59,24 +90,32 @@ impl Tallies {
     /// Whether a line of this kind is logged. If not, it is counted. Of an order the first line of
     /// a second is.
     pub fn takes(&mut self, of: Of<'_>, kind: Kind) -> bool
-        ensures logged { result ≡ is_line_logged of.entry kind self.old }
-        ensures after { self.new ≡ after_line_of of.entry kind self.old }
+        ensures logged { result ≡ is_line_logged (whose_of of.entry) kind self.old }
+        ensures after { self.new ≡ after_line_of (whose_of of.entry) kind self.old }
     {
         match of {
-            Of::Ups(place) => self.upses[place as usize].takes(kind, true),
-            Of::User(address) => self.users.takes(address, kind, true),
+            Of::Ups(u) => self.upses[u.place as usize].takes(kind, true),
+            Of::User(_, who) => self.users.takes(&who.address, kind, true),
             Of::Order(deed) => {
                 self.is_first(deed) || self.users.takes(&deed.who.address, kind, true)
             }
-            Of::Client(address) => {
-                let has_room = self.refusals < REFUSAL_LIMIT;
-                let is_logged = self.clients.takes(address, kind, has_room);
-                if is_logged {
-                    self.refusals += 1;
-                }
-                is_logged
-            }
+            Of::Refused(deed) => self.takes_of_client(&deed.who.address, kind),
+            Of::Client(address) => self.takes_of_client(address, kind),
         }
+    }
+
+    /// Whether a line is logged of what any client of the address may cause: at most 30 of all
+    /// addresses in a second. If not, it is counted.
+    fn takes_of_client(&mut self, address: &Address, kind: Kind) -> bool
+        ensures logged { result ≡ is_client_logged address.now kind self.old }
+        ensures after { self.new ≡ after_client address.now kind self.old }
+    {
+        let has_room = self.refusals < REFUSAL_LIMIT;
+        let is_logged = self.clients.takes(address, kind, has_room);
+        if is_logged {
+            self.refusals += 1;
+        }
+        is_logged
     }
 
     /// Whether it is the first such order of this second. A forced shutdown is, even where there

@@ -1,7 +1,7 @@
 //! How many lines of a UPS, or of the clients of an address, are logged in a second and in a
 //! minute. All more are counted.
 ghost use Rattle.std.specs.Prelude.{◌≡◌};
-ghost use Rattle.nutjournal.specs.Tally.{after_count, after_line, after_second, begins_minute, has_more, is_behind, is_logged, is_restless, limit_of, more_counted, priority_of, reported};
+ghost use Rattle.nutjournal.specs.Tally.{after_count, after_line, after_second, begins_minute, has_more, is_behind, is_logged, is_of, is_reported, is_restless, limit_of, more_counted, priority_of, reported};
 
 use crate::log_buffer::{CRITICAL, INFO, NOTICE, WARNING};
 use std::fmt::{self, Formatter, Write};
@@ -62,10 +62,14 @@ pub enum Kind {
     GaveWay,
     /// A refused line of a driver that speaks of the status.
     RefusedStatus,
+    /// A tracked order succeeded, as its driver reports.
+    OrderDone,
+    /// One failed.
+    OrderFailed,
 }
 
 /// How many kinds there are.
-const KIND_COUNT: usize = 18;
+const KIND_COUNT: usize = 20;
 
 /// All kinds.
 const KINDS: [Kind; KIND_COUNT] = [
@@ -87,6 +91,8 @@ const KINDS: [Kind; KIND_COUNT] = [
     Kind::Silent,
     Kind::GaveWay,
     Kind::RefusedStatus,
+    Kind::OrderDone,
+    Kind::OrderFailed,
 ];
 
 impl Kind {
@@ -114,6 +120,8 @@ impl Kind {
             Kind::Silent => ("silent and closed", INFO, PLAIN_LIMIT),
             Kind::GaveWay => ("gave way", WARNING, PLAIN_LIMIT),
             Kind::RefusedStatus => ("refused statuses", WARNING, PLAIN_LIMIT),
+            Kind::OrderDone => ("orders that succeeded", INFO, PLAIN_LIMIT),
+            Kind::OrderFailed => ("orders that failed", WARNING, PLAIN_LIMIT),
         }
     }
 }
@@ -127,6 +135,8 @@ pub struct Tally {
     logged: u64,
     /// How many more there were of each kind, since that was last reported.
     more: [u64; KIND_COUNT],
+    /// The priority of the most urgent one of these.
+    worst: Option<u8>,
 }
 
 impl Tally {
@@ -136,7 +146,7 @@ impl Tally {
         ensures logged { result ≡ is_logged has_room self.old kind }
         ensures after { self.new ≡ after_line has_room self.old kind }
     {
-        let (_, _, limit) = kind.row();
+        let (_, priority, limit) = kind.row();
         let is_held = self.is_restless() && limit == PLAIN_LIMIT;
         let is_logged = has_room && self.logged < limit && !is_held;
         if is_logged {
@@ -145,6 +155,7 @@ impl Tally {
         } else {
             let place = kind as usize;
             self.more[place] = self.more[place].saturating_add(1);
+            self.worst = Some(self.worst.map_or(priority, |worst| worst.min(priority)));
         }
         is_logged
     }
@@ -156,15 +167,21 @@ impl Tally {
         self.lines >= MINUTE_LIMIT
     }
 
-    /// The lines that were counted, where they are to be reported now: after too many lines they are
-    /// once a minute.
-    pub fn reported(&self, is_minute: bool) -> Tally
-        ensures { result.more ≡ reported self.now is_minute }
+    /// Whether what was counted is reported now: after too many lines it is once a minute.
+    fn is_reported(&self, is_minute: bool) -> bool
+        ensures { result ≡ is_reported self.now is_minute }
     {
-        if is_minute || !self.is_restless() {
-            *self
+        is_minute || !self.is_restless()
+    }
+
+    /// The priority of what was counted, where some was that is reported now.
+    pub fn reported(&self, is_minute: bool) -> Option<u8>
+        ensures { result ≡ reported self.now is_minute }
+    {
+        if self.is_reported(is_minute) {
+            self.worst
         } else {
-            Tally::default()
+            None
         }
     }
 
@@ -173,15 +190,16 @@ impl Tally {
     pub fn next_second(self, is_minute: bool) -> Tally
         ensures { result ≡ after_second self is_minute }
     {
-        let is_reported = is_minute || !self.is_restless();
+        let lines = if is_minute { 0 } else { self.lines };
+        let counted = if self.is_reported(is_minute) {
+            Tally::default()
+        } else {
+            self
+        };
         Tally {
-            lines: if is_minute { 0 } else { self.lines },
+            lines,
             logged: 0,
-            more: if is_reported {
-                [0; KIND_COUNT]
-            } else {
-                self.more
-            },
+            ..counted
         }
     }
 
@@ -189,13 +207,7 @@ impl Tally {
     pub fn has_more(&self) -> bool
         ensures { result ≡ has_more self.now }
     {
-        self.more.iter().any(|count| *count > 0)
-    }
-
-    /// The priority of the most urgent line that was counted, if one was.
-    pub fn priority(&self) -> Option<u8> {
-        let counted = KINDS.iter().filter(|kind| self.more[**kind as usize] > 0);
-        counted.map(|kind| kind.row().1).min()
+        self.worst.is_some()
     }
 }
 
@@ -229,17 +241,19 @@ impl Count {
     }
 
     /// Whether some were logged in this minute.
-    pub fn is_of(&self, minute: u64) -> bool {
+    pub fn is_of(&self, minute: u64) -> bool
+        ensures { result ≡ is_of minute self.now }
+    {
         self.minute == Some(minute)
     }
 
-    /// How many there are since some were logged, where that is logged now: exactly where there are
-    /// some, and, of what is logged once a minute, none were logged in this one.
-    pub fn more(&mut self, count: u64, is_held: bool, minute: u64) -> Option<u64>
-        ensures more { result ≡ more_counted count is_held minute self.old }
-        ensures after { self.new ≡ after_count count is_held minute self.old }
+    /// How many there are since some were logged, where that is logged now: where there are some,
+    /// and none were logged in this minute.
+    pub fn more(&mut self, count: u64, minute: u64) -> Option<u64>
+        ensures more { result ≡ more_counted count minute self.old }
+        ensures after { self.new ≡ after_count count minute self.old }
     {
-        if count <= self.logged || is_held && self.minute == Some(minute) {
+        if !self.is_behind(count) || self.is_of(minute) {
             return None;
         }
         let more = count - self.logged;

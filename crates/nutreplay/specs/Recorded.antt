@@ -1,5 +1,5 @@
 -- What a recorder has written of the events, and what that is read as.
-use Rattle.std.specs.Prelude.{◌≡◌, ◌⊎◌, ◌<◌, ℕ, Bool, true, false, not, List, [], ◌∷◌, ◌++◌, length}
+use Rattle.std.specs.Prelude.{◌≡◌, ◌⊎◌, ◌<◌, ◌&&◌, ℕ, Bool, true, false, not, List, [], ◌∷◌, ◌++◌, length}
 use Rattle.std.specs.Prelude.{Option, Some, string_bytes}
 use Rattle.nutio.specs.Ends.{IsBeginning, Written, WriteFailed}
 use Rattle.nutusers.specs.UpsList.{Ups, IsList}
@@ -74,6 +74,10 @@ pub record WritesAll {W : Type 0} (contents : W → Option (List ℕ)) (failures
   pub goes_on : old.is_cut ≡ false
       → Leaves contents failures old.left old.writer (string_bytes old.waiting) (not new.is_cut)
       new.writer
+
+-- The record ends by that.
+abbrev pub ends_by : {W : Type 0} → Recorder W → Recorder W → Bool
+ends_by old new = new.is_cut && not old.is_cut
 
 -- What is written is read as these events, or the record has ended.
 abbrev pub IsFileOf : List Ups → ℕ → Bool → List ℕ → List Event → Type 0

@@ -1,6 +1,7 @@
 //! A record: the events of a server, written one by one as a script.
 ghost use Rattle.std.specs.Prelude.{◌≡◌, ◌+◌, [], true, is_some, length, string_bytes, IfSome, Some, ℕ};
-ghost use Rattle.nutreplay.specs.Recorded.{Leaves, Records, WritesAll};
+ghost use Rattle.nutcore.specs.Recording.{Continues};
+ghost use Rattle.nutreplay.specs.Recorded.{Leaves, Records, WritesAll, ends_by};
 ghost use Rattle.nutreplay.specs.Written.{IsReadAs, head_of, is_one_line};
 
 use crate::script::{add_line, add_line_of_bytes};
@@ -75,7 +76,14 @@ impl<W: Sink + Drop> Record for Recorder<W> {
         }
     }
 
-    fn pause(&mut self) -> bool {
+    /// Afterwards no line waits: what waited is written, or the record has ended. The answer is
+    /// whether it ended by that.
+    fn pause(&mut self) -> bool
+        ensures goes_on { Continues (λ max_age. Records W.contents max_age self.old) []
+            (λ max_age. Records W.contents max_age self.new) }
+        ensures written { WritesAll W.contents W.failures self.old self.new }
+        ensures ended { result ≡ ends_by self.old self.new }
+    {
         let was_cut = self.is_cut;
         self.flush();
         self.is_cut != was_cut

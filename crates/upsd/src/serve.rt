@@ -244,11 +244,11 @@ fn doings_of<'s, F: Read + Drop>(
         let to = sockets.awaiting().unwrap_or(&client.address);
         left = Some((&client.address, leave_of(client.leave, to)));
     }
+    let counts = sockets.counts();
     Doings {
         left,
         sent_away: sockets.sent_away(),
-        counts: sockets.counts(),
-        is_record_cut,
+        counts: [counts[0], counts[1], u64::from(is_record_cut)],
     }
 }
 
