@@ -1,5 +1,6 @@
 -- What a call logs and counts.
-use Rattle.std.proofs.Common.{◌≡◌, ◌∙◌, ℕ, zero, suc, ◌+◌, ◌<◌, List, [], ◌∷◌, ◌++◌, drop, length, take}
+use Rattle.std.proofs.Common.{◌≡◌, ◌∙◌, ℕ, zero, suc, ◌+◌, ◌<◌, List, []}
+use Rattle.std.proofs.Common.{◌∷◌, ◌++◌, drop, length, take}
 use Rattle.std.proofs.Common.{Bool, true, false, Option, Some, None, refl, sym, ap, subst, arith}
 use Rattle.std.proofs.Common.{slice_set, slice_index_or, add-one}
 use Rattle.std.specs.Prelude.{is_none, ◌&&◌, ◌/◌, ◌≢◌, option_map, slice_get}
@@ -35,17 +36,25 @@ no_note (note ∷ all) h = absurd (omega arith)
 
 -- Nothing was noted, and nobody left.
 pub no_call : (s : ServerState) (all : List Note) (doings : Doings) (old begun new : Journal)
-    → Begins s doings old begun → length all ≡ 0 → are_none doings ≡ true → new ≡ begun → IsCall s all doings old new
+    → Begins s doings old begun → length all ≡ 0 → are_none doings ≡ true → new ≡
+    begun → IsCall s all doings old new
 no_call s all doings old begun new second none nobody same = record {
   begun = begun;
   second = second;
   logged = begun.log;
-  lines = subst (λ ns. DuesMore s.list (dues_of s.moment ns begun.drivers ++ left_due doings ∷ []) begun.tallies begun.log begun.log)
-      (sym (no_note all none))
-      (begun.log, subst (λ due. DueMore s.list due begun.tallies begun.log begun.log) (sym (nobody_left doings nobody)) refl, refl);
+  lines = subst (λ ns. DuesMore s.list
+      (dues_of s.moment ns begun.drivers ++ left_due doings ∷ []) begun.tallies begun.log begun.log)
+      (sym (no_note all none)) (
+        begun.log,
+        subst (λ due. DueMore s.list due begun.tallies begun.log begun.log)
+            (sym (nobody_left doings nobody)) refl,
+        refl,
+      );
   flushed = record { times = 0; are = ap (λ j. j.log) same };
-  tallies = subst (λ ns. new.tallies ≡ after_dues (dues_of s.moment ns begun.drivers ++ left_due doings ∷ []) begun.tallies)
-      (sym (no_note all none)) (subst (λ due. new.tallies ≡ after_due due begun.tallies) (sym (nobody_left doings nobody)) (ap (λ j. j.tallies) same));
+  tallies = subst (λ ns. new.tallies ≡
+      after_dues (dues_of s.moment ns begun.drivers ++ left_due doings ∷ []) begun.tallies)
+      (sym (no_note all none)) (subst (λ due. new.tallies ≡ after_due due begun.tallies)
+      (sym (nobody_left doings nobody)) (ap (λ j. j.tallies) same));
   counts = ap (λ j. j.counts) same;
 }
 
@@ -56,12 +65,14 @@ pub one_call : (s : ServerState) (all : List Note) (doings : Doings) (old begun 
     → noted.tallies ≡ after_dues (dues_of s.moment all begun.drivers) begun.tallies
     → DueMore s.list (left_due doings) noted.tallies noted.log done.log
     → done.tallies ≡ after_due (left_due doings) noted.tallies
-    → IsFlushed done.log new.log → new.tallies ≡ done.tallies → new.counts ≡ begun.counts → IsCall s all doings old new
+    → IsFlushed done.log new.log → new.tallies ≡ done.tallies → new.counts ≡
+    begun.counts → IsCall s all doings old new
 one_call s all doings old begun noted done new second lines tallies left after flushed same counts = record {
   begun = begun;
   second = second;
   logged = done.log;
-  lines = dues_then s.list (dues_of s.moment all begun.drivers) (left_due doings ∷ []) begun.tallies begun.log noted.log done.log
+  lines = dues_then s.list (dues_of s.moment all begun.drivers) (left_due doings ∷ [])
+      begun.tallies begun.log noted.log done.log
       lines (done.log, subst (λ t. DueMore s.list (left_due doings) t noted.log done.log) tallies left, refl);
   flushed = flushed;
   tallies = same ∙ after ∙ ap (after_due (left_due doings)) tallies
@@ -72,7 +83,8 @@ one_call s all doings old begun noted done new second lines tallies left after f
 -- One count after another is logged.
 at_counted : (minute : ℕ) (ns : List ℕ) (xs : List Count) (i : ℕ) (d : Count) → i < length xs → i < length ns
     → slice_set (after_counts minute (take i ns) (take i xs) ++ drop i xs) i
-    (after_count (slice_index_or ns i 0) minute (slice_index_or (after_counts minute (take i ns) (take i xs) ++ drop i xs) i d))
+    (after_count (slice_index_or ns i 0) minute
+    (slice_index_or (after_counts minute (take i ns) (take i xs) ++ drop i xs) i d))
     ≡ after_counts minute (take (suc i) ns) (take (suc i) xs) ++ drop (suc i) xs
 at_counted minute ns [] i d below there = absurd (omega arith)
 at_counted minute [] (x ∷ xs) i d below there = absurd (omega arith)
@@ -96,7 +108,8 @@ pub one_more_some : (due : Option ℕ) (ups : Option (List ℕ)) (a b c : LogBuf
 one_more_some due ups a b c first h = then_some a b c first (one_more due ups b c h)
 
 -- What was counted is logged, where a second begins.
-pub begun : (s : ServerState) (is_minute : Bool) (doings : Doings) (old new : Journal) (upses users clients counts : LogBuffer)
+pub begun : (s : ServerState) (is_minute : Bool) (doings : Doings) (old new : Journal)
+    (upses users clients counts : LogBuffer)
     → PlacesMore (ups_places is_minute s.list old.tallies.upses) old.log upses
     → PlacesMore (client_places is_minute old.tallies.users) upses users
     → PlacesMore (client_places is_minute old.tallies.clients) users clients
@@ -111,7 +124,8 @@ begun s is_minute doings old new upses users clients counts one two three four f
   counted = clients;
   lines = then_more (ups_places is_minute s.list old.tallies.upses ++ client_places is_minute old.tallies.users)
       (client_places is_minute old.tallies.clients) old.log users clients
-      (then_more (ups_places is_minute s.list old.tallies.upses) (client_places is_minute old.tallies.users) old.log upses users one two)
+      (then_more (ups_places is_minute s.list old.tallies.upses)
+      (client_places is_minute old.tallies.users) old.log upses users one two)
       three;
   others = then_some clients counts new.log four five;
   is = is;
@@ -120,7 +134,8 @@ begun s is_minute doings old new upses users clients counts one two three four f
 pub begins_now : (s : ServerState) (doings : Doings) (old begun seen new : Journal) → old.moment ≢ Some s.moment
     → IsBegun s (begins_minute old.moment s.moment) doings (record old { moment = Some s.moment }) begun
     → SomeMore begun.log seen.log → seen ≡ record begun { log = seen.log; drivers = seen.drivers }
-    → SomeMore seen.log new.log → new ≡ record seen { log = new.log; crowded = new.crowded } → Begins s doings old new
+    → SomeMore seen.log new.log → new ≡
+    record seen { log = new.log; crowded = new.crowded } → Begins s doings old new
 begins_now s doings old begun seen new other lines news same crowd is = record {
   goes_on = λ now. absurd (other now);
   begins = λ h. record {
@@ -135,14 +150,16 @@ begins_now s doings old begun seen new other lines news same crowd is = record {
 }
 
 -- What was counted of the next UPS is logged.
-further : (is_minute : Bool) (list : List Ups) (ys : List Tally) (i : ℕ) (d : Tally) → i < length list → i < length ys
+further : (is_minute : Bool) (list : List Ups) (ys : List Tally) (i : ℕ) (d : Tally) → i <
+    length list → i < length ys
     → ups_places is_minute (drop i list) (drop i ys)
     ≡ place_of_tally is_minute (option_map (λ x. x.name) (slice_get list i)) (slice_index_or ys i d)
     ∷ ups_places is_minute (drop (suc i) list) (drop (suc i) ys)
 further is_minute [] ys i d below there = absurd (omega arith)
 further is_minute (x ∷ list) [] i d below there = absurd (omega arith)
 further is_minute (x ∷ list) (y ∷ ys) zero d below there = refl
-further is_minute (x ∷ list) (y ∷ ys) (suc i) d below there = further is_minute list ys i d (omega arith) (omega arith)
+further is_minute (x ∷ list) (y ∷ ys) (suc i) d below there =
+    further is_minute list ys i d (omega arith) (omega arith)
 
 pub next_ups : (is_minute : Bool) (list : List Ups) (ys : List Tally) (i : ℕ) (d : Tally) (due : Option ℕ)
     (ups : Option (List ℕ)) (a b end : LogBuffer) → i < length list → i < length ys → PlaceMore due ups a b
@@ -152,6 +169,7 @@ pub next_ups : (is_minute : Bool) (list : List Ups) (ys : List Tally) (i : ℕ) 
 next_ups is_minute list ys i d due ups a b end below there more is_due is_ups later =
     subst (λ places. PlacesMore places a end) (sym (further is_minute list ys i d below there)) (
       b,
-      subst (λ x. PlaceMore x (option_map (λ x. x.name) (slice_get list i)) a b) is_due (subst (λ x. PlaceMore due x a b) is_ups more),
+      subst (λ x. PlaceMore x (option_map (λ x. x.name) (slice_get list i)) a b) is_due
+          (subst (λ x. PlaceMore due x a b) is_ups more),
       subst (λ k. PlacesMore (ups_places is_minute (drop k list) (drop k ys)) b end) (add-one i) later,
     )

@@ -1,6 +1,8 @@
 -- Lines one after another.
-use Rattle.std.proofs.Common.{◌≡◌, ◌∙◌, ℕ, zero, suc, ◌+◌, ◌<◌, List, [], ◌∷◌, ◌++◌, drop, length}
-use Rattle.std.proofs.Common.{Bool, true, false, Option, Some, None, refl, sym, ap, subst, arith, take, slice_set, slice_index_or}
+use Rattle.std.proofs.Common.{◌≡◌, ◌∙◌, ℕ, zero, suc, ◌+◌, ◌<◌, List, []}
+use Rattle.std.proofs.Common.{◌∷◌, ◌++◌, drop, length}
+use Rattle.std.proofs.Common.{Bool, true, false, Option, Some, None, refl, sym, ap, subst, arith}
+use Rattle.std.proofs.Common.{take, slice_set, slice_index_or}
 use Rattle.nutjournal.specs.declared.log_buffer.LogBuffer.{LogBuffer}
 use Rattle.nutjournal.specs.declared.tallies.Tallies.{Tallies}
 use Rattle.nutjournal.specs.Lines.{DueMore, DuesMore, Line, after_due, after_dues}
@@ -17,12 +19,17 @@ none_more a b same = record { places = []; are = same }
 
 pub then_some : (a b c : LogBuffer) → SomeMore a b → SomeMore b c → SomeMore a c
 then_some a b c first later =
-    record { places = first.places ++ later.places; are = then_more first.places later.places a b c first.are later.are }
+    record {
+      places = first.places ++ later.places;
+      are =
+          then_more first.places later.places a b c first.are later.are;
+    }
 
 pub one_more : (due : Option ℕ) (ups : Option (List ℕ)) (a b : LogBuffer) → PlaceMore due ups a b → SomeMore a b
 one_more due ups a b h = record { places = record { due = due; ups = ups } ∷ []; are = (b, h, refl) }
 
-pub line_more : (priority : ℕ) (ups : Option (List ℕ)) (a b : LogBuffer) → OneLineMore priority ups a b → SomeMore a b
+pub line_more : (priority : ℕ) (ups : Option (List ℕ)) (a b : LogBuffer) →
+    OneLineMore priority ups a b → SomeMore a b
 line_more priority ups a b h = one_more (Some priority) ups a b h
 
 pub three_more : (d e f : Option ℕ) (u v w : Option (List ℕ)) (a b c z : LogBuffer)

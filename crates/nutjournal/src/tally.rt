@@ -191,15 +191,16 @@ impl Tally {
         ensures { result ≡ after_second self is_minute }
     {
         let lines = if is_minute { 0 } else { self.lines };
-        let counted = if self.is_reported(is_minute) {
-            Tally::default()
+        let (more, worst) = if self.is_reported(is_minute) {
+            ([0; KIND_COUNT], None)
         } else {
-            self
+            (self.more, self.worst)
         };
         Tally {
             lines,
             logged: 0,
-            ..counted
+            more,
+            worst,
         }
     }
 

@@ -7,5 +7,6 @@ use Rattle.nutjournal.proofs.journal.log_more.Given as goal
 -- what was counted of the addresses so far has its lines
 abbrev pub invariant-loop-place : goal.invariant-loop-place
 invariant-loop-place l = (end : LogBuffer)
-    → PlacesMore (map (place_of_tally l.is_minute None) (drop l.place (take (length l.clients.addresses.items + 1) l.clients.tallies))) l.log end
+    → PlacesMore (map (place_of_tally l.is_minute None)
+    (drop l.place (take (length l.clients.addresses.items + 1) l.clients.tallies))) l.log end
     → PlacesMore (client_places l.is_minute l.clients) l.fn.log end

@@ -6,10 +6,14 @@ use Rattle.nutjournal.proofs.journal.Journal.log_notes.Given as goal
 -- the lines of the notes so far are logged or counted
 abbrev pub invariant-loop-note : goal.invariant-loop-note
 invariant-loop-note l = record {
-  tallies : after_dues (dues_along l.server.state.moment l.server.notes (drop l.note-index l.server.notes) l.self.drivers) l.self.tallies
+  tallies : after_dues (dues_along l.server.state.moment l.server.notes
+      (drop l.note-index l.server.notes) l.self.drivers) l.self.tallies
       ≡ after_dues (dues_of l.server.state.moment l.server.notes l.fn.self.drivers) l.fn.self.tallies;
   same : l.self ≡ record l.fn.self { log = l.self.log; drivers = l.self.drivers; tallies = l.self.tallies };
   log : (end : LogBuffer)
-      → DuesMore l.server.state.list (dues_along l.server.state.moment l.server.notes (drop l.note-index l.server.notes) l.self.drivers) l.self.tallies l.self.log end
-      → DuesMore l.server.state.list (dues_of l.server.state.moment l.server.notes l.fn.self.drivers) l.fn.self.tallies l.fn.self.log end;
+      → DuesMore l.server.state.list
+      (dues_along l.server.state.moment l.server.notes (drop l.note-index l.server.notes)
+      l.self.drivers) l.self.tallies l.self.log end
+      → DuesMore l.server.state.list
+      (dues_of l.server.state.moment l.server.notes l.fn.self.drivers) l.fn.self.tallies l.fn.self.log end;
 }
