@@ -30,6 +30,7 @@ def text_of(path):
 # What a manual says of a program is what its sources say.
 
 JOURNAL = "crates/nutjournal/src/journal.rt"
+TEXTS = "crates/nutjournal/src/texts.rt"
 # The texts of each source, and the form in which a manual has them.
 MESSAGES = [
     ("crates/upsd/src/ending.rt", r'#\[error\("(.*?)"', r"\1"),
@@ -45,11 +46,14 @@ MESSAGES = [
     (JOURNAL, r'format_args!\("((?:silent|gave) .*)"\);', r"192.0.2.1 \1"),
     ("crates/nutjournal/src/tally.rt", r'=> \("(d(?:ata|river) .*)", [A-Z]+, [A-Z_]+\),', r"su: \1"),
     (JOURNAL, r'^    \("([a-z].*)", true\),', r"\1: N"),
-    (JOURNAL, r'^    \("([a-z].*)", false\),', r"\1"),
+    (JOURNAL, r'^ +"(the record has .*)",$', r"\1"),
     ("crates/upsd/src/reading.rt", r'"upsd: \{path\}:\{number\}: (.*)"\)', r"PATH:LINE: \1"),
     (JOURNAL, r'&"(logged in)"', r"su: mon@192.0.2.1 \1"),
     (JOURNAL, r'format_args!\("(logged .*: )\{\}"', r"su: mon@192.0.2.1 \1REASON"),
-    (JOURNAL, r'format_args!\("(ordered) \{asked\}\{end\}"\)', r"su: mon@192.0.2.1 \1 COMMAND"),
+    (JOURNAL, r'format_args!\("(ordered) \{asked\}\{end\}\{id\}"\)', r"su: mon@192.0.2.1 \1 COMMAND"),
+    (TEXTS, r'write!\(f, "(, tracked as )\{\}"', r"su: mon@192.0.2.1 ordered COMMAND\1ID"),
+    (TEXTS, r'0 => f.write_str\("(succeeded)"\)', r"su: order ID \1"),
+    (TEXTS, r'number => write!\(f, "(failed: .*)"\)', r"su: order ID \1"),
     (JOURNAL, r'Kind::EmptyOrder => "( .*)",', r"su: mon@192.0.2.1 ordered COMMAND\1"),
     (JOURNAL, r'Kind::ForcedShutdown => "(: .*)",', r"su: mon@192.0.2.1 ordered FSD\1"),
     (JOURNAL, r'format_args!\("(was refused) \{asked\}.*"\);', r"su: mon@192.0.2.1 \1 COMMAND: WORD"),

@@ -181,6 +181,18 @@ def orders_reach_the_driver_and_are_logged_once_without_values():
         assert comes(lambda: good.ask(b"GET VAR su ups.delay\n") == b'VAR su ups.delay "30"\n')
 
 
+def a_tracked_order_is_logged_with_its_id_and_its_end():
+    with served(ORDERS) as (server, driver, good):
+        assert good.ask(ADMIN + b"SET TRACKING ON\n") == b"OK\n" * 3
+        for number, end in ((0, "succeeded"), (3, "failed: 3")):
+            answer = good.ask(b"INSTCMD su test.battery.start\n")
+            assert answer.startswith(b"OK TRACKING "), answer
+            tracking_id = answer.split()[2].decode()
+            assert driver.line().split()[:2] == [b"INSTCMD", b"test.battery.start"]
+            driver.send(f"TRACKING {tracking_id} {number}\n".encode())
+            logs(server, f"admin@127.0.0.1 ordered INSTCMD test.battery.start, tracked as {tracking_id}", f"order {tracking_id} {end}")
+
+
 def a_driver_that_took_none_gets_its_orders_again():
     """Once it reads what its socket holds, and what it was owed beside that. Meanwhile its reports are answered."""
     order = b"INSTCMD su test.battery.start\n"
