@@ -11,7 +11,6 @@ ghost use Rattle.upsd.specs.Configuration.{IsListOf, AreUsersOf, AreDescriptions
 
 use crate::ending::{Ending, ending_of_file};
 use crate::reading::{FileReader, read};
-use crate::refused::Shape;
 use clap::ArgMatches;
 use nutcore::{Descriptions, MaxAge, Server, UpsList, Users};
 use nutwords::UpsName;
@@ -122,12 +121,7 @@ fn list_in<'a, R: FileReader>(
         return UpsList::one(alloc, su).map_err(|_| Ending::Memory);
     };
     let bytes = read(reader, path)?;
-    UpsList::read(alloc, &bytes).map_err(|fault| ending_of_file(
-        path,
-        &bytes,
-        Shape::Sections,
-        fault,
-    ))
+    UpsList::read(alloc, &bytes).map_err(|fault| ending_of_file(path, fault))
 }
 
 /// The users that the file of this path means. Without a file there are none.
@@ -145,7 +139,7 @@ fn users_in<'a, R: FileReader>(
         return Ok(Users::none(alloc));
     };
     let bytes = read(reader, path)?;
-    Users::read(alloc, &bytes).map_err(|fault| ending_of_file(path, &bytes, Shape::Sections, fault))
+    Users::read(alloc, &bytes).map_err(|fault| ending_of_file(path, fault))
 }
 
 /// The descriptions that the file of this path means. Without a file there are none.
@@ -163,10 +157,5 @@ fn descriptions_in<'a, R: FileReader>(
         return Ok(Descriptions::none(alloc));
     };
     let bytes = read(reader, path)?;
-    Descriptions::read(alloc, &bytes).map_err(|fault| ending_of_file(
-        path,
-        &bytes,
-        Shape::Table,
-        fault,
-    ))
+    Descriptions::read(alloc, &bytes).map_err(|fault| ending_of_file(path, fault))
 }
