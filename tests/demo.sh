@@ -67,8 +67,10 @@ within 'programs stay' eval "! grep -qs '$folder/roo[m]' /proc/[0-9]*/cmdline"
 # The journal has the orders, each once, and no value.
 ordered="upsd: demo: admin@127.0.0.1 ordered"
 orders='SET VAR battery.charge.low,INSTCMD test.failure.start,SET VAR ups.status,SET VAR ups.status,INSTCMD test.failure.stop'
-[[ $(sed -n "s/^$ordered //p" "$folder/journal" | paste -sd ,) == "$orders" ]] || fails 'which orders were logged'
-grep -vE "^(upsd: demo: (driver connected|data good|status [A-Z ]+)|$ordered .*|make: .*)$" "$folder/journal" && fails 'what was logged'
+id='[0-9a-f-]{36}'
+[[ $(sed -nE "s/^$ordered //; T; s/, tracked as $id\$//; p" "$folder/journal" | paste -sd ,) == "$orders" ]] || fails 'which orders were logged'
+[[ $(sed -nE "s/^upsd: demo: order $id //p" "$folder/journal" | paste -sd ,) == 'succeeded,failed: 2,succeeded' ]] || fails 'how the tracked orders ended'
+grep -vE "^(upsd: demo: (driver connected|data good|status [A-Z ]+|order $id .*)|$ordered .*|make: .*)$" "$folder/journal" && fails 'what was logged'
 
 # A driver that ends leaves its socket. The next one takes its place; no other one does while that lives.
 driver=(crates/demodriver/out/demodriver "$folder/driver")
