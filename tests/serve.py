@@ -173,7 +173,7 @@ def orders_reach_the_driver_and_are_logged_once_without_values():
 
 
 def a_tracked_order_is_logged_with_its_id_and_its_end():
-    with served(ORDERS) as (server, driver, good):
+    with served(ORDERS, "--ids", "/dev/urandom") as (server, driver, good):
         assert good.ask(ADMIN + b"SET TRACKING ON\n") == b"OK\n" * 3
         for number, end in ((0, "succeeded"), (3, "failed: 3")):
             answer = good.ask(b"INSTCMD su test.battery.start\n")
