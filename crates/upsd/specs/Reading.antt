@@ -1,6 +1,8 @@
 -- What reading files gives.
-use Rattle.std.specs.Prelude.{◌≡◌, ℕ, ◌+◌, ◌==◌, ⊤, List, [], ◌∷◌, Option, Some, Result, Err}
+use Rattle.std.specs.Prelude.{◌≡◌, ℕ, ℤ, ◌+◌, ◌==◌, ⊤, List, [], ◌∷◌, Option, Some, Result, Err}
 use Rattle.std.specs.Prelude.{if◌then◌else◌, take}
+use Rattle.std.specs.declared.io.ErrorKind.{ErrorKind}
+use Rattle.std.specs.declared.io.ErrorKind.TheVariants.{OutOfMemory}
 use denote.Ref.{Bor}
 use Rattle.nutreplay.specs.Script.{is_record}
 use Rattle.upsd.specs.declared.ending.Ending.{Ending}
@@ -15,6 +17,11 @@ Readings = List ℕ → Result (List ℕ) ReadFault → Type 0
 -- Any file may hold anything, as those of the system.
 abbrev pub anything : Readings
 anything path reading = ⊤
+
+-- Why a read failed, by the kind of its error and the system's number.
+abbrev pub fault_of : ErrorKind → Option ℤ → ReadFault
+fault_of OutOfMemory number = faults.Memory
+fault_of kind number = faults.Failed number
 
 -- How the program ends where it can't read a file.
 abbrev pub ending_of_unread : Bor (List ℕ) → ReadFault → Ending

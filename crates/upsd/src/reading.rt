@@ -1,8 +1,8 @@
 //! Reading files by their paths.
-ghost use Rattle.std.specs.Prelude.{◌≡◌, ◌≢◌, ◌≤◌, length, ℕ, List, Result, Ok, Err, IfErr, MatchResult};
+ghost use Rattle.std.specs.Prelude.{◌≡◌, ◌≤◌, length, ℕ, List, Result, Ok, Err, IfErr, MatchResult};
 ghost use Rattle.std.specs.IoError.{error_kind, raw_os_error};
 ghost use Rattle.upsd.specs.declared.reading.ReadFault.{ReadFault};
-ghost use Rattle.upsd.specs.Reading.{CantBeRead, anything, ending_of_unread, lines_end, replayed_lines, whole_lines};
+ghost use Rattle.upsd.specs.Reading.{CantBeRead, anything, ending_of_unread, fault_of, lines_end, replayed_lines, whole_lines};
 
 use crate::ending::Ending;
 use nutreplay::is_record;
@@ -63,9 +63,7 @@ fn read_all(rt: &HostRuntime, path: &str) -> io::Result<Vec<u8>> {
 
 /// Why a read failed.
 fn fault_of(error: &Error) -> ReadFault
-    ensures memory { error_kind error.now ≡ ErrorKind.OutOfMemory → result ≡ ReadFault.Memory }
-    ensures failed { error_kind error.now ≢ ErrorKind.OutOfMemory
-        → result ≡ ReadFault.Failed (raw_os_error error.now) }
+    ensures { result ≡ fault_of (error_kind error.now) (raw_os_error error.now) }
 {
     match error.kind() {
         ErrorKind::OutOfMemory => ReadFault::Memory,
