@@ -35,6 +35,8 @@ TEXTS = "crates/nutjournal/src/texts.rt"
 MESSAGES = [
     ("crates/upsd/src/ending.rt", r'#\[error\("(.*?)"', r"\1"),
     ("crates/nutloop/src/fault.rt", r'#\[error\("(.*)"\)\]', r"\1"),
+    ("crates/upsd/src/starting.rt", r'"(started: .*)"', r"\1"),
+    ("crates/upsd/src/serve.rt", r'"(ended: .*)"', r"\1"),
     ("crates/upsd/src/warnings.rt", r'warn_if\(.*, &"(.*)"\);', r"warning: PATH: \1"),
     ("crates/upsd/src/warnings.rt", r'format_args!\("([a-z].*)"\);', r"warning: PATH: \1"),
     ("crates/upsd/src/warnings.rt", r'(?:format_args!\("\[\{\}\]: |^ *note\([a-z]+, ")([^"]*)"\)?[,;)].*$', r"warning: PATH: [NAME]: \1"),
@@ -59,7 +61,8 @@ MESSAGES = [
     (JOURNAL, r'format_args!\("(was refused) \{asked\}.*"\);', r"su: mon@192.0.2.1 \1 COMMAND: WORD"),
 ]
 FORMS = {"0": "PATH", "1": "LINE", "number": "N", "count": "N", "error": "ERROR", "status": "STATUS", "tally": "N KIND, ..", "state": "DATA", "address": "192.0.2.1",
-         "to": "198.51.100.1", "why": "REASON", "shown": "BYTES", "seconds": "N", "taken": "N", "most": "N", "SESSION_LIMIT": "64"}  # fmt: skip
+         "to": "198.51.100.1", "why": "REASON", "shown": "BYTES", "seconds": "N", "taken": "N", "most": "N", "SESSION_LIMIT": "64",
+         "VERSION": "VERSION", "bound": " ADDRESS ..", "options": " OPTION ..", "ending": "FAULT"}  # fmt: skip
 FAULTS = [("crates/nutrequest/src/faults.rt", r'ClientFault::.* => \(b"(.*)", b""\),', r"\1")]
 
 

@@ -150,6 +150,23 @@ def what_the_files_lack_is_warned_of():
     assert judged.stderr == "", judged.stderr
 
 
+def what_is_served_is_logged_at_the_start():
+    words = ["--listen", "[::1]:0", "--idle", "600", "--maxage", "20", "--ids", "/dev/urandom", "--priorities"]
+    with begun(file("alone.conf", "[su]\n"), "--users", path("users"), *words) as server:
+        line = (r"^<6>upsd: started: version \S+, UPSs: 1, at 127[.]0[.]0[.]1:%d \[::1\]:\d+, "
+                r"--maxage 20 --keep-places 0 --idle 600 --ids$")
+        assert comes(lambda: re.search(line % server.port, server.whole_journal(), re.MULTILINE)), server.whole_journal()
+        assert server.whole_journal().count("started") == 1
+
+
+def a_loop_that_cannot_go_on_is_logged():
+    """As the system no longer reports what is ready."""
+    words = ["serve", "--ups", file("alone.conf", "[su]\n"), "--users", path("users"), "--listen", "127.0.0.1:0", "--priorities"]
+    ended = subprocess.run([UPSD, *words], preexec_fn=serving.refuse_to_wait, capture_output=True, text=True, timeout=10, check=False)
+    assert ended.returncode == 1, ended
+    assert ended.stderr.splitlines()[-2:] == ["<4>upsd: ended: ready failed", "upsd: ready failed"], ended
+
+
 def logs(server, *lines):
     """The journal has what it had the last time, which was COME at first, and then these lines of su."""
     server.logged = getattr(server, "logged", COME) + "".join(f"upsd: su: {line}\n" for line in lines)
@@ -252,7 +269,7 @@ def a_standard_error_that_nobody_reads_stops_nothing():
             # A pipe takes all that waits at once, a terminal some of it.
             assert os.isatty(reading) or time.monotonic() - begin < 3 * serving.SLOWER, "the lines lag"
             logged, dropped = sum("status OB" in line for line in lines), int(lines[-1].split()[1])
-            assert "".join(line + "\n" for line in lines[:3]) == COME, lines[:3]
+            assert "".join(line + "\n" for line in lines[1:4]) == COME, lines[:4]
             assert 0 < dropped and 56 <= logged + dropped <= 90, (logged, dropped)
             good.send(b"LOGIN su\n")
             assert good.line() == refusal

@@ -1,10 +1,12 @@
 """Servers on real sockets, the built one or another, with their drivers and clients."""
 import array
 import contextlib
+import ctypes
 import fcntl
 import itertools
 import os
 import random
+import re
 import resource
 import select
 import signal
@@ -152,6 +154,16 @@ class Client:
         self.wire.close()
 
 
+def refuse_to_wait():
+    """From now on the system refuses this process to wait for events: a filter of its calls (seccomp(2)) answers EPERM."""
+    first, second = {"x86_64": (232, 281), "aarch64": (22, 22)}[os.uname().machine]
+    load, equal, answer = 0x20, 0x15, 0x06
+    lines = [(load, 0, 0, 0), (equal, 1, 0, first), (equal, 0, 1, second), (answer, 0, 0, 0x50001), (answer, 0, 0, 0x7FFF0000)]
+    held = ctypes.create_string_buffer(b"".join(struct.pack("HBBI", *line) for line in lines))
+    prctl, new_privileges, seccomp, by_filter = ctypes.CDLL(None).prctl, 38, 22, 2
+    assert prctl(new_privileges, 1, 0, 0, 0) == 0 == prctl(seccomp, by_filter, struct.pack("HP", len(lines), ctypes.addressof(held)))
+
+
 class Server:
     """The built server with these words, at a port that the system gives, and its clients, which are closed with it."""
 
@@ -171,6 +183,10 @@ class Server:
         return self.clients[-1]
 
     def journal(self):
+        """What it has logged but for its start."""
+        return re.sub(r"^(<6>)?upsd: started: .*\n", "", self.whole_journal(), count=1, flags=re.MULTILINE)
+
+    def whole_journal(self):
         return os.pread(self.errors.fileno(), 1 << 20, 0).decode()
 
     def kilobytes(self, kind="VmRSS"):

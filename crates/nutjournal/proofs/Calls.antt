@@ -1,19 +1,23 @@
 -- What a call logs and counts.
 use Rattle.std.proofs.Common.{◌≡◌, ◌∙◌, ℕ, zero, suc, ◌+◌, ◌<◌, List, []}
 use Rattle.std.proofs.Common.{◌∷◌, ◌++◌, drop, length, take}
-use Rattle.std.proofs.Common.{Bool, true, false, Option, Some, None, refl, sym, ap, subst, arith}
+use Rattle.std.proofs.Common.{Bool, true, Option, Some, None, refl, sym, ap, subst, arith}
 use Rattle.std.proofs.Common.{slice_set, slice_index_or, add-one}
 use Rattle.std.specs.Prelude.{is_none, ◌&&◌, ◌/◌, ◌≢◌, option_map, slice_get}
 use Rattle.std.specs.Option.{option_map_or}
 use Rattle.nutcore.specs.declared.note.Note.{Note}
 use Rattle.nutcore.specs.Server.{ServerState}
 use Rattle.nutjournal.specs.declared.doings.Doings.{Doings}
+use Rattle.nutjournal.specs.declared.drivers.Driver.{Driver}
 use Rattle.nutjournal.specs.declared.journal.Journal.{Journal}
 use Rattle.nutjournal.specs.declared.log_buffer.LogBuffer.{LogBuffer}
+use Rattle.nutjournal.specs.declared.refusals.Refusals.{Refusals}
+use Rattle.nutjournal.specs.declared.tallies.Tallies.{Tallies}
 use Rattle.nutjournal.specs.declared.tally.Count.{Count}
-use Rattle.nutjournal.specs.Calls.{Begins, IsBegun, IsCall, after_counts, client_places, place_of_tally, ups_places}
+use Rattle.nutjournal.specs.Calls.{Begins, IsBegun, IsCall, after_counts, client_places, dues_of_call, place_of_tally}
+use Rattle.nutjournal.specs.Calls.{ups_places}
 use Rattle.nutjournal.specs.Tallies.{after_second_of}
-use Rattle.nutjournal.specs.Lines.{DueMore, DuesMore, after_due, after_dues, dues_of, left_due}
+use Rattle.nutjournal.specs.Lines.{DueMore, DuesMore, after_due, after_dues, drivers_along, dues_of, left_due}
 use Rattle.nutjournal.specs.LogBuffer.{IsFlushed, PlaceMore, PlacesMore, SomeMore}
 use Rattle.nutjournal.specs.Tally.{after_count, begins_minute, reported}
 use Rattle.nutjournal.specs.declared.tally.Tally.{Tally}
@@ -35,6 +39,12 @@ no_note [] h = refl
 no_note (note ∷ all) h = absurd (omega arith)
 
 -- Nothing was noted, and nobody left.
+no_dues : (s : ServerState) (all : List Note) (doings : Doings) (drivers : List Driver) → length all ≡ 0
+    → are_none doings ≡ true → dues_of_call s all doings drivers ≡ None ∷ []
+no_dues s all doings drivers none nobody =
+    ap (λ ns. dues_of s.moment ns drivers ++ left_due doings ∷ []) (no_note all none)
+    ∙ ap (λ due. due ∷ []) (nobody_left doings nobody)
+
 pub no_call : (s : ServerState) (all : List Note) (doings : Doings) (old begun new : Journal)
     → Begins s doings old begun → length all ≡ 0 → are_none doings ≡ true → new ≡
     begun → IsCall s all doings old new
@@ -42,43 +52,71 @@ no_call s all doings old begun new second none nobody same = record {
   begun = begun;
   second = second;
   logged = begun.log;
-  lines = subst (λ ns. DuesMore s.list
-      (dues_of s.moment ns begun.drivers ++ left_due doings ∷ []) begun.tallies begun.log begun.log)
-      (sym (no_note all none)) (
-        begun.log,
-        subst (λ due. DueMore s.list due begun.tallies begun.log begun.log)
-            (sym (nobody_left doings nobody)) refl,
-        refl,
-      );
+  lines = subst (λ dues. DuesMore s.list dues begun.tallies begun.log begun.log)
+      (sym (no_dues s all doings begun.drivers none nobody)) (begun.log, refl, refl);
   flushed = record { times = 0; are = ap (λ j. j.log) same };
-  tallies = subst (λ ns. new.tallies ≡
-      after_dues (dues_of s.moment ns begun.drivers ++ left_due doings ∷ []) begun.tallies)
-      (sym (no_note all none)) (subst (λ due. new.tallies ≡ after_due due begun.tallies)
-      (sym (nobody_left doings nobody)) (ap (λ j. j.tallies) same));
-  counts = ap (λ j. j.counts) same;
+  same = subst (λ dues. new ≡ record begun {
+    log = new.log;
+    drivers = drivers_along s.moment all begun.drivers;
+    tallies = after_dues dues begun.tallies;
+    refusals = new.refusals;
+    has_more = new.has_more;
+  }) (sym (no_dues s all doings begun.drivers none nobody))
+      (subst (λ ns. new ≡ record begun {
+        log = new.log;
+        drivers = drivers_along s.moment ns begun.drivers;
+        refusals = new.refusals;
+        has_more = new.has_more;
+      }) (sym (no_note all none))
+      (subst (λ j. j ≡ record begun { log = j.log; refusals = j.refusals; has_more = j.has_more }) (sym same) refl));
 }
 
 -- The lines of the notes, and that of who left.
 pub one_call : (s : ServerState) (all : List Note) (doings : Doings) (old begun noted done new : Journal)
     → Begins s doings old begun
     → DuesMore s.list (dues_of s.moment all begun.drivers) begun.tallies begun.log noted.log
-    → noted.tallies ≡ after_dues (dues_of s.moment all begun.drivers) begun.tallies
+    → noted ≡ record begun {
+      log = noted.log;
+      drivers = drivers_along s.moment all begun.drivers;
+      tallies = after_dues (dues_of s.moment all begun.drivers) begun.tallies;
+    }
     → DueMore s.list (left_due doings) noted.tallies noted.log done.log
-    → done.tallies ≡ after_due (left_due doings) noted.tallies
-    → IsFlushed done.log new.log → new.tallies ≡ done.tallies → new.counts ≡
-    begun.counts → IsCall s all doings old new
-one_call s all doings old begun noted done new second lines tallies left after flushed same counts = record {
-  begun = begun;
-  second = second;
-  logged = done.log;
-  lines = dues_then s.list (dues_of s.moment all begun.drivers) (left_due doings ∷ [])
-      begun.tallies begun.log noted.log done.log
-      lines (done.log, subst (λ t. DueMore s.list (left_due doings) t noted.log done.log) tallies left, refl);
-  flushed = flushed;
-  tallies = same ∙ after ∙ ap (after_due (left_due doings)) tallies
-      ∙ sym (after_both (dues_of s.moment all begun.drivers) (left_due doings ∷ []) begun.tallies);
-  counts = counts;
-}
+    → done ≡ record noted {
+      log = done.log;
+      tallies = after_due (left_due doings) noted.tallies;
+      refusals = done.refusals;
+    }
+    → IsFlushed done.log new.log → new ≡ record done { log = new.log; has_more = new.has_more }
+    → IsCall s all doings old new
+one_call s all doings old begun noted done new second lines noted_is left done_is flushed is =
+    let tallies : noted.tallies ≡ after_dues (dues_of s.moment all begun.drivers) begun.tallies =
+    ap (λ j. j.tallies) noted_is in
+    record {
+      begun = begun;
+      second = second;
+      logged = done.log;
+      lines = dues_then s.list (dues_of s.moment all begun.drivers) (left_due doings ∷ [])
+          begun.tallies begun.log noted.log done.log
+          lines (done.log, subst (λ t. DueMore s.list (left_due doings) t noted.log done.log) tallies left, refl);
+      flushed = flushed;
+      same = is
+          ∙ ap (λ (r : Refusals). record done { log = new.log; refusals = r; has_more = new.has_more })
+          (sym (ap (λ j. j.refusals) is))
+          ∙ ap (λ (j : Journal). record j { log = new.log; refusals = new.refusals; has_more = new.has_more }) done_is
+          ∙ ap (λ (j : Journal). record j {
+            log = new.log;
+            tallies = after_due (left_due doings) j.tallies;
+            refusals = new.refusals;
+            has_more = new.has_more;
+          }) noted_is
+          ∙ ap (λ (t : Tallies). record begun {
+            log = new.log;
+            drivers = drivers_along s.moment all begun.drivers;
+            tallies = t;
+            refusals = new.refusals;
+            has_more = new.has_more;
+          }) (sym (after_both (dues_of s.moment all begun.drivers) (left_due doings ∷ []) begun.tallies));
+    }
 
 -- One count after another is logged.
 at_counted : (minute : ℕ) (ns : List ℕ) (xs : List Count) (i : ℕ) (d : Count) → i < length xs → i < length ns

@@ -67,12 +67,12 @@ raised more i j below room = grind (
   get_or-set_other more j i (one_more (get_or more j 0)) 0,
 )
 
-step : (r : Bool) (y : Tally) (kind next : Kind) → length y.more ≡ 20 → count kind y < 2 ^ 64 - 1
+pub step : (r : Bool) (y : Tally) (kind next : Kind) → length y.more ≡ 20 → count kind y < 2 ^ 64 - 1
     → one_if (is_same kind next && is_logged r y next) + count kind (after_line r y next) ≡
     count kind y + one_if (is_same kind next)
 step r y kind next size room = grind (arith, nat_tests, raised y.more (number kind) (number next), number_below next)
 
-same_size : (r : Bool) (y : Tally) (next : Kind) → length (after_line r y next).more ≡ length y.more
+pub same_size : (r : Bool) (y : Tally) (next : Kind) → length (after_line r y next).more ≡ length y.more
 same_size r y next = grind (arith, length-set y.more (number next) (one_more (count next y)))
 
 each_of : (y : Tally) (kind : Kind) (lines : List Coming) → length y.more ≡ 20 → count kind y +

@@ -1,11 +1,10 @@
 -- Lines one after another.
-use Rattle.std.proofs.Common.{◌≡◌, ◌∙◌, ℕ, zero, suc, ◌+◌, ◌<◌, List, []}
-use Rattle.std.proofs.Common.{◌∷◌, ◌++◌, drop, length}
-use Rattle.std.proofs.Common.{Bool, true, false, Option, Some, None, refl, sym, ap, subst, arith}
-use Rattle.std.proofs.Common.{take, slice_set, slice_index_or}
+use Rattle.std.proofs.Common.{◌≡◌, ℕ, suc, List, []}
+use Rattle.std.proofs.Common.{◌∷◌, ◌++◌, drop}
+use Rattle.std.proofs.Common.{Option, Some, refl, subst}
 use Rattle.nutjournal.specs.declared.log_buffer.LogBuffer.{LogBuffer}
 use Rattle.nutjournal.specs.declared.tallies.Tallies.{Tallies}
-use Rattle.nutjournal.specs.Lines.{DueMore, DuesMore, Line, after_due, after_dues}
+use Rattle.nutjournal.specs.Lines.{DuesMore, Line, after_due, after_dues}
 use Rattle.nutjournal.specs.LogBuffer.{CountsDropped, IsFlushed, OneLineMore, Place, PlaceMore, PlacesMore, SomeMore}
 use Rattle.nutusers.specs.UpsList.{Ups}
 

@@ -14,8 +14,8 @@ use Rattle.nutjournal.specs.declared.tallies.Tallies.{Tallies}
 use Rattle.nutjournal.specs.declared.tally.Count.{Count}
 use Rattle.nutjournal.specs.declared.tally.Tally.{Tally}
 use Rattle.nutjournal.specs.declared.tally.TheConstants.{MINUTE}
-use Rattle.nutjournal.specs.Lines.{DuesMore, Line, after_dues, dues_of, left_due}
-use Rattle.nutjournal.specs.LogBuffer.{IsFlushed, Place, PlacesMore, SomeMore}
+use Rattle.nutjournal.specs.Lines.{DuesMore, Line, after_dues, drivers_along, dues_of, left_due}
+use Rattle.nutjournal.specs.LogBuffer.{IsFlushed, OneLineMore, Place, PlacesMore, SomeMore}
 use Rattle.nutjournal.specs.Tallies.{after_second_of}
 use Rattle.nutjournal.specs.Tally.{after_count, begins_minute, is_counted, reported}
 
@@ -91,5 +91,17 @@ pub record IsCall (s : ServerState) (all : List Note) (doings : Doings) (old new
   pub lines : DuesMore s.list (dues_of_call s all doings begun.drivers) begun.tallies begun.log
       logged
   pub flushed : IsFlushed logged new.log
-  pub tallies : new.tallies ≡ after_dues (dues_of_call s all doings begun.drivers) begun.tallies
-  pub counts : new.counts ≡ begun.counts
+  pub same : new ≡ record begun {
+    log = new.log;
+    drivers = drivers_along s.moment all begun.drivers;
+    tallies = after_dues (dues_of_call s all doings begun.drivers) begun.tallies;
+    refusals = new.refusals;
+    has_more = new.has_more;
+  }
+
+-- A line of this priority, that is of no note, is logged at once.
+pub record IsLoggedNow (priority : ℕ) (old new : Journal) : Type 0 where
+  pub logged : LogBuffer
+  pub line : OneLineMore priority None old.log logged
+  pub flushed : IsFlushed logged new.log
+  pub same : new ≡ record old { log = new.log }

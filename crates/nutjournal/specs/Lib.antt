@@ -6,3 +6,5 @@ pub mod Waiting
 pub mod Refusals
 pub mod Lines
 pub mod Calls
+pub mod Written
+pub mod Runs

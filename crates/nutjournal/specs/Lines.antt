@@ -133,6 +133,11 @@ drivers_after moment (notes.LineRefused u fault shown) drivers =
     slice_set drivers u.place (record was { refused = (one_more was.refused.0, fault) })
 drivers_after moment _ drivers = drivers
 
+abbrev pub drivers_along : ℕ → List Note → List Driver → List Driver
+drivers_along moment [] drivers = drivers
+drivers_along moment (note ∷ later) drivers =
+    drivers_along moment later (drivers_after moment note drivers)
+
 -- The lines that are due of the notes of an event, in their order.
 abbrev pub dues_along : ℕ → List Note → List Note → List Driver → List (Option Line)
 dues_along moment all [] drivers = []

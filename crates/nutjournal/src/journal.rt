@@ -1,8 +1,8 @@
 //! The journal of the UPSs and their clients while they are served.
 ghost use Rattle.std.specs.Prelude.{◌≡◌, ◌≢◌, ◌≤◌, ◌<◌, ◌||◌, [], length, false, true, IfOk, None, Some};
 ghost use Rattle.nutjournal.specs.declared.doings.TheConstants.{COUNTED};
-ghost use Rattle.nutjournal.specs.Calls.{Begins, IsBegun, IsCall, after_counts, client_places, count_due, ups_places};
-ghost use Rattle.nutjournal.specs.Lines.{DueMore, DuesMore, after_due, after_dues, due_now, due_of, dues_of, drivers_after, left_due, line_of_deed};
+ghost use Rattle.nutjournal.specs.Calls.{Begins, IsBegun, IsCall, IsLoggedNow, after_counts, client_places, count_due, ups_places};
+ghost use Rattle.nutjournal.specs.Lines.{DueMore, DuesMore, after_due, after_dues, due_now, due_of, dues_of, drivers_after, drivers_along, left_due, line_of_deed};
 ghost use Rattle.nutjournal.specs.LogBuffer.{PlaceMore, PlacesMore, SomeMore};
 ghost use Rattle.nutjournal.specs.Tallies.{after_line_of, ups_of, whose_of};
 ghost use Rattle.nutjournal.specs.Tally.{after_count};
@@ -123,6 +123,14 @@ impl Journal {
         let is_new = !server.notes().is_empty() || !doings.are_none();
         self.has_more = is_new || self.holds(server.ups().len());
         self.has_more || self.is_behind(doings)
+    }
+
+    /// Logs a line that is of no note, and writes what waits.
+    pub fn log_now<D: Display>(&mut self, rt: &HostRuntime, priority: u8, line: &D)
+        ensures { IsLoggedNow priority self.old self.new }
+    {
+        self.log.add(priority, None, line);
+        self.log.flush(rt);
     }
 
     /// Where a second begins, logs what was counted, and what is new in the counts and of the
@@ -314,7 +322,7 @@ impl Journal {
             self.old.tallies self.old.log self.new.log }
         ensures same { self.new ≡ record self.old {
           log = self.new.log;
-          drivers = self.new.drivers;
+          drivers = drivers_along server.now.state.moment server.now.notes self.old.drivers;
           tallies = after_dues
               (dues_of server.now.state.moment server.now.notes self.old.drivers)
               self.old.tallies;

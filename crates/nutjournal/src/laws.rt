@@ -1,7 +1,9 @@
 //! The numbers of the journal, and what it logs and counts.
 ghost use Rattle.std.specs.Prelude.{◌≡◌};
+ghost use Rattle.nutjournal.specs.Runs.{EachOrderHasItsLine, LoggedAndCountedAreAll};
 ghost use Rattle.nutjournal.specs.Tallies.{FirstOrdersAreLogged};
 ghost use Rattle.nutjournal.specs.Tally.{EachLineIsLoggedOrCounted, MinutesAreApart};
+ghost use Rattle.nutjournal.specs.Written.{WhatIsQueuedIsWritten};
 ghost use Rattle.nutjournal.specs.declared.log_buffer.TheConstants.{LOG_LIMIT, RESERVE};
 ghost use Rattle.nutjournal.specs.declared.tallies.TheConstants.{ADDRESS_COUNT, ORDER_COUNT, REFUSAL_LIMIT};
 ghost use Rattle.nutjournal.specs.declared.tally.TheConstants.{ALARM_LIMIT, LINE_LIMIT, MINUTE, MINUTE_LIMIT, PLAIN_LIMIT};
@@ -41,4 +43,27 @@ pub fn minutes_are_apart()
 /// different ones, and each forced shutdown beyond them.
 pub fn first_orders_are_logged()
     ensures { FirstOrdersAreLogged }
+{}
+
+/// Logged and counted together are all. In a run of the journal's calls, for each tally of a UPS or
+/// an address and each kind: the lines that are logged, the numbers that the lines of counts have,
+/// and what is still counted at the end are what was counted at the beginning and all lines that
+/// came. What is counted has its line once it is reported. The lines come in their order.
+#[tactic(auto, using(crate::proofs::Runs::logged_and_counted_are_all))]
+pub fn logged_and_counted_are_all()
+    ensures { LoggedAndCountedAreAll }
+{}
+
+/// Whatever comes before it in its second, each granted order of each user at each UPS has its
+/// line: of 64 different ones, and each forced shutdown beyond them.
+#[tactic(auto, using(crate::proofs::FirstOrders::each_order_has_its_line))]
+pub fn each_order_has_its_line()
+    ensures { EachOrderHasItsLine }
+{}
+
+/// What standard error took, and then what waits, is each line that had room, whole and in order.
+/// Each other line is counted as dropped, up to the line that has their number.
+#[tactic(auto, using(crate::proofs::Written::what_is_queued_is_written))]
+pub fn what_is_queued_is_written()
+    ensures { WhatIsQueuedIsWritten }
 {}

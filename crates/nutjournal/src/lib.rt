@@ -14,3 +14,4 @@ mod texts;
 
 pub use doings::{COUNTED, CROWD, Crowd, Doings, Leave};
 pub use journal::Journal;
+pub use log_buffer::{INFO, WARNING};

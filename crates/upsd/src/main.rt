@@ -18,6 +18,7 @@ mod laws;
 mod reading;
 mod replaying;
 mod serve;
+mod starting;
 mod task;
 mod warnings;
 

@@ -12,12 +12,13 @@ ghost use Rattle.upsd.specs.Reading.{CantBeOpened, anything};
 use crate::ending::Ending;
 use crate::files::{Files, server_of};
 use crate::reading::{create, open};
+use crate::starting::log_start;
 use crate::task::{Addresses, Service};
 use crate::warnings::Warner;
 use nutargs::VERSION;
 use nutcore::{Record, Server};
 use nutio::{CountedWriter, Sink, send};
-use nutjournal::{CROWD, Crowd, Doings, Journal, Leave};
+use nutjournal::{CROWD, Crowd, Doings, Journal, Leave, WARNING};
 use nutloop::{CannotListen, DOOR_LIMIT, Loop, MioSockets, Rules};
 use nutreplay::{Recorder, record_head};
 use nutwords::Address;
@@ -175,7 +176,14 @@ fn serve_over<'a, F: Read + Drop, W: Sink + Drop>(
     let warner = Warner { rt, priorities };
     warner.warn(files, served.server.ups(), served.server.users());
     match print_bound(rt, &service.addresses, &served.sockets) {
-        Ok(()) => go_round(rt, served, &mut journal),
+        Ok(()) => {
+            log_start(rt, &mut journal, served, files, service);
+            let ended = go_round(rt, served, &mut journal);
+            if let Err(ending) = &ended {
+                journal.log_now(rt, WARNING, &format_args!("ended: {ending}"));
+            }
+            ended
+        }
         Err(ending) => Err(ending),
     }
 }

@@ -1,4 +1,4 @@
-use Rattle.std.proofs.Common.{◌≡◌, ◌+◌, drop, length, map, take, None}
+use Rattle.std.proofs.Common.{◌+◌, drop, length, map, take, None}
 use Rattle.nutjournal.specs.declared.log_buffer.LogBuffer.{LogBuffer}
 use Rattle.nutjournal.specs.Calls.{client_places, place_of_tally}
 use Rattle.nutjournal.specs.LogBuffer.{PlacesMore}

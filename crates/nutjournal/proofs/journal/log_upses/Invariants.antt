@@ -1,4 +1,4 @@
-use Rattle.std.proofs.Common.{◌≡◌, drop}
+use Rattle.std.proofs.Common.{drop}
 use Rattle.nutjournal.specs.declared.log_buffer.LogBuffer.{LogBuffer}
 use Rattle.nutjournal.specs.Calls.{ups_places}
 use Rattle.nutjournal.specs.LogBuffer.{PlacesMore}
