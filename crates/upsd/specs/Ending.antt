@@ -10,6 +10,7 @@ use Rattle.nutusers.specs.File.{Format, IsRefused}
 use Rattle.nutusers.specs.declared.fault.Cause.TheVariants as causes
 use Rattle.nutusers.specs.declared.fault.ConfFault.{ConfFault}
 use Rattle.upsd.specs.declared.ending.Ending.{Ending}
+use Rattle.upsd.specs.declared.refused.Remark.{Remark}
 use Rattle.upsd.specs.declared.task.Addresses.{Addresses}
 use Rattle.upsd.specs.declared.ending.Ending.TheVariants as endings
 use Rattle.upsd.specs.declared.ending.TheConstants.{DONE, FAULT, WORD_FAULT}
@@ -22,7 +23,7 @@ use Rattle.nutreplay.specs.declared.replaying.ReplayFault.TheVariants as faults
 pub record EndsByFault (path : Bor (List ℕ)) (fault : ConfFault) (ending : Ending) : Type 0 where
   pub memory : fault.cause ≡ causes.Memory → ending ≡ endings.Memory
   pub line : fault.cause ≢ causes.Memory
-      → ending ≡ endings.Refused path fault.line fault.cause
+      → (remark : Remark) × (ending ≡ endings.Refused path fault.line fault.cause remark)
 
 -- The ending for the refusal of a file with these lines.
 abbrev pub EndsByRefusal : Format → (List ℕ → Bool) → Bor (List ℕ) → List (List ℕ) → Ending → Type 0
@@ -63,5 +64,5 @@ PrintsAddress contents failures address out result after = ⊥
 -- The status with which the program ends.
 abbrev pub status_of : Result (Unit {0}) Ending → ℕ
 status_of (Ok u) = DONE
-status_of (Err (endings.BadArgument address)) = WORD_FAULT
+status_of (Err (endings.BadArgument bad)) = WORD_FAULT
 status_of (Err _) = FAULT

@@ -11,6 +11,7 @@ ghost use Rattle.upsd.specs.Configuration.{IsListOf, AreUsersOf, AreDescriptions
 
 use crate::ending::{Ending, ending_of_file};
 use crate::reading::{FileReader, read};
+use crate::refused::Shape;
 use clap::ArgMatches;
 use nutcore::{Descriptions, MaxAge, Server, UpsList, Users};
 use nutwords::UpsName;
@@ -121,7 +122,12 @@ fn list_in<'a, R: FileReader>(
         return UpsList::one(alloc, su).map_err(|_| Ending::Memory);
     };
     let bytes = read(reader, path)?;
-    UpsList::read(alloc, &bytes).map_err(|fault| ending_of_file(path, fault))
+    UpsList::read(alloc, &bytes).map_err(|fault| ending_of_file(
+        path,
+        &bytes,
+        Shape::Sections,
+        fault,
+    ))
 }
 
 /// The users that the file of this path means. Without a file there are none.
@@ -139,7 +145,7 @@ fn users_in<'a, R: FileReader>(
         return Ok(Users::none(alloc));
     };
     let bytes = read(reader, path)?;
-    Users::read(alloc, &bytes).map_err(|fault| ending_of_file(path, fault))
+    Users::read(alloc, &bytes).map_err(|fault| ending_of_file(path, &bytes, Shape::Sections, fault))
 }
 
 /// The descriptions that the file of this path means. Without a file there are none.
@@ -157,5 +163,10 @@ fn descriptions_in<'a, R: FileReader>(
         return Ok(Descriptions::none(alloc));
     };
     let bytes = read(reader, path)?;
-    Descriptions::read(alloc, &bytes).map_err(|fault| ending_of_file(path, fault))
+    Descriptions::read(alloc, &bytes).map_err(|fault| ending_of_file(
+        path,
+        &bytes,
+        Shape::Table,
+        fault,
+    ))
 }
