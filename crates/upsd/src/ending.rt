@@ -22,7 +22,7 @@ pub const FAULT: u8 = 1;
 pub const WORD_FAULT: u8 = 2;
 
 /// Why the program isn't done. A path is as it was typed. An error is the system's number.
-#[derive(Clone, Copy, Debug, Error)]
+#[derive(Debug, Drop, Error)]
 pub enum Ending<'a> {
     /// One of the words isn't what it has to be.
     #[error("bad argument")]
@@ -62,12 +62,12 @@ pub enum BadWord<'a> {
 }
 
 /// How the program ends where the configuration file of these bytes is refused so.
-pub fn ending_of_file<'a>(path: &'a str, file: &[u8], shape: Shape, fault: ConfFault) -> Ending<'a>
-    ensures { EndsByFault path.entry fault result }
+pub fn ending_of_file<'a>(path: &'a str, shape: Shape, file: &[u8], fault: ConfFault) -> Ending<'a>
+    ensures { EndsByFault path.entry shape file.now fault result }
 {
     match fault.cause {
         Cause::Memory => Ending::Memory,
-        cause => Ending::Refused(path, fault.line, cause, remark_of(file, fault, shape)),
+        cause => Ending::Refused(path, fault.line, cause, remark_of(shape, file, fault)),
     }
 }
 
