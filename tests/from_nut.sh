@@ -243,5 +243,5 @@ else
     echo 'from_nut: four checks are skipped: unshare has no rights'
     checks=$((checks + 4))
 fi
-echo "from_nut: $checks of 59 checks"
-[[ $checks == 59 ]]
+echo "from_nut: $checks of 61 checks"
+[[ $checks == 61 ]]

@@ -144,7 +144,7 @@ REMARKS = [
     ("users", "[a]\n", 'password = ""', "6: bad value: password"),
     ("users", "[a]\n", "actions = SETT", "6: bad value: actions"),
     ("vars", "", "VARDESC a b c", "1: malformed line: VARDESC a b c: write VARDESC or CMDDESC, a name, and a text in quotes"),
-    ("vars", "", 'VARDESC a/b "text"', "3: bad name: VARDESC a/b"),
+    ("vars", "", 'VARDESC a/b "text"', '3: bad name: VARDESC a/b \\"text\\"'),
 ]  # fmt: skip
 
 
