@@ -56,14 +56,29 @@ impl Part {
             Part::Ups => ("UPS", "not 1 to 32 letters, digits, . - _"),
             Part::Host => ("host", "not 1 to 255 letters, digits, . and -"),
             Part::Port => ("port", "not 1 to 65535 without leading zeros"),
-            Part::Ipv6 => ("address", "an IPv6 address needs a host name, as /etc/hosts gives one"),
+            Part::Ipv6 => (
+                "address",
+                "an IPv6 address needs a host name, as /etc/hosts gives one",
+            ),
             Part::Variable => ("VAR", "not 1 to 64 letters, digits, . - _"),
             Part::Command => ("CMD", "not 1 to 64 letters, digits, . - _"),
             Part::Id => ("ID", "not one that --track printed"),
-            Part::Setting => ("VAR=VALUE", "not a name, = and a value of at most 512 bytes"),
-            Part::Value => ("VALUE", "not at most 512 bytes, none of them a control character"),
-            Part::User => ("USER", "not 1 to 64 bytes, none of them a control character"),
-            Part::Password => ("PASS", "not 1 to 256 bytes, none of them a control character"),
+            Part::Setting => (
+                "VAR=VALUE",
+                "not a name, = and a value of at most 512 bytes",
+            ),
+            Part::Value => (
+                "VALUE",
+                "not at most 512 bytes, none of them a control character",
+            ),
+            Part::User => (
+                "USER",
+                "not 1 to 64 bytes, none of them a control character",
+            ),
+            Part::Password => (
+                "PASS",
+                "not 1 to 256 bytes, none of them a control character",
+            ),
         }
     }
 }
