@@ -39,6 +39,8 @@ ups|[su]\ninclude /x\n|2: refused: include: this server has one file
 users|[mon]\n[two words]\n|2: refused: no line of a section: what follows belongs to [mon]
 users|[mon]\npassword = a\npassword = b\n|3: refused: password is here twice in [mon]
 conf|LISTEN no.such.invalid 3493\n|1: refused: LISTEN no.such.invalid: no address of that name is known
+conf|LISTEN 127.0.0.1 abc\n|1: refused: LISTEN 127.0.0.1 abc: the port is a number, 1 to 65535
+conf|LISTEN ::1 65536\n|1: refused: LISTEN ::1 65536: the port is a number, 1 to 65535
 users|[mon]\nupsmon frob\n|2: refused: upsmon frob
 conf|LISTEN ::1\nLISTEN ::1 3493\nLISTEN ::1 1\nLISTEN ::1 2\nLISTEN ::1 3\nLISTEN ::1 4\nLISTEN ::1 5\nLISTEN ::1 6\nLISTEN ::1 7\nLISTEN ::1 8\n|10: refused: LISTEN: the server has at most eight addresses
 conf|MAXAGE 15.5\n|1: refused: MAXAGE 15.5: it is a whole number of seconds
@@ -81,8 +83,8 @@ is_refused() {
     if grep -q "$1" said && [[ ! -e root && -z $(ls tmp) ]]; then ok; else cat said; fi
 }
 DESTDIR='' is_refused "^from_nut: refused: the unit is masked: "
-echo 'LISTEN 0.0.0.0 nut' >etc/upsd.conf
-is_refused "^from_nut: refused: --listen 0.0.0.0:nut: the server doesn't take that"
+echo 'LISTEN 300.0.0.1' >etc/upsd.conf
+is_refused "^from_nut: refused: --listen 300.0.0.1:3493: the server doesn't take that"
 printf 'LISTEN 127.0.0.1\nLISTEN 192.0.2.1\n' >etc/upsd.conf
 DESTDIR='' is_refused '^from_nut: refused: LISTEN: upsd: 192.0.2.1:0: Cannot assign requested address'
 echo 'MAXAGE 20.5' >etc/upsd.conf
@@ -241,5 +243,5 @@ else
     echo 'from_nut: four checks are skipped: unshare has no rights'
     checks=$((checks + 4))
 fi
-echo "from_nut: $checks of 59 checks"
-[[ $checks == 59 ]]
+echo "from_nut: $checks of 61 checks"
+[[ $checks == 61 ]]

@@ -79,11 +79,11 @@ ENDS = [
     ("--ups two.conf --users monitors --vars texts login", 0, sent("client 1", b"OK\nOK\nOK\n" + DESCRIBED) + TWO_DRIVERS, b""),
     ("login --vars=texts --ups=two.conf", 0, sent("client 1", b"OK\nOK\nERR ACCESS-DENIED\n" + DESCRIBED) + TWO_DRIVERS, b""),
     ("login", 0, sent("client 1", b"OK\nOK\nERR ACCESS-DENIED\nERR UNKNOWN-UPS\n") + NO_DRIVER, b""),
-    ("--vars absent --ups key.conf login", 1, b"", b"upsd: key.conf:4: cause 5\nupsd: cause 5: unknown key\n"),
-    ("bad --vars twice --ups two.conf", 1, b"", b"upsd: twice:2: cause 4\nupsd: cause 4: duplicate\n"),
+    ("--vars absent --ups key.conf login", 1, b"", b"upsd: key.conf:4: cause 5\nupsd: cause 5: unknown key: driver\n"),
+    ("bad --vars twice --ups two.conf", 1, b"", b"upsd: twice:2: cause 4\nupsd: cause 4: duplicate: VARDESC ups.status b\n"),
     ("--ups two.conf --vars texts absent", 1, b"", b"upsd: absent: cannot read\nupsd: absent: No such file or directory\n"),
     ("--ups . login", 1, b"", b"upsd: .: cannot read\nupsd: .: Is a directory\n"),
-    ("--ups two.conf ./bad", 1, b"", b"upsd: ./bad:2: bad event\n"),
+    ("--ups two.conf ./bad", 1, b"", b"upsd: ./bad:2: bad event\nupsd: ./bad:2: none of a script's lines, which PROTOCOL.md has\n"),
 ]  # fmt: skip
 WRONG_WORDS = ["", "replay --ups two.conf", "replay --maxage 15 login", "replay login --ups", "replay --ups two.conf --ups two.conf login",
                "replay login login", "play login"]  # fmt: skip
@@ -109,9 +109,49 @@ def other_words():
         BENCH.refuses_words(*words.split())
     ended = BENCH.ends("replay", b"\xff"), ends_on_a_terminal(BENCH.program, "replay", b"\xff")
     assert ended == ((2, b"", b"upsd: bad argument\n"), (2, b"upsd: bad argument\nupsd: a word is not UTF-8\n")), ended
-    full = ends_in_full(BENCH.program, "replay", BENCH.file("netver", b"open 192.0.2.1\nclient 1 NETVER\ntook 1 all\n"))
-    assert full == (1, b"upsd: write failed\n"), full
+    script, failed = BENCH.file("netver", b"open 192.0.2.1\nclient 1 NETVER\ntook 1 all\n"), b"upsd: write failed\n"
+    full = ends_in_full(BENCH.program, "replay", script), ends_in_full(BENCH.program, "replay", "--explain", script)
+    assert full == ((1, failed), (1, failed + b"upsd: standard output is full, or nobody reads it\n")), full
     return each(HELP.items(), lambda words, named: BENCH.prints_help(named, *words.split(" ")))
+
+
+# What the second line of a fault says of a line that a file doesn't take: of which file, after which lines, and the line.
+
+KEY = "write key = value, with blanks around =, and a value with blanks in quotes"
+SECTION = "write [name], a word without blanks and quotes, alone on its line"
+REMARKS = [
+    ("ups", '[a]\n', 'desc="x"', f"1: malformed line: desc: {KEY}"),
+    ("ups", "[a]\n", "socket=/run/nut/a", f"1: malformed line: socket: {KEY}"),
+    ("ups", "[a]\n", "desc x", f"1: malformed line: desc: {KEY}"),
+    ("ups", "", "[s u]", f"1: malformed line: [s u]: {SECTION}"),
+    ("ups", "", '["s u"]', f'1: malformed line: [\\"s u\\"]: {SECTION}'),
+    ("ups", "", "[su", f"1: malformed line: [su: {SECTION}"),
+    ("ups", "[a]\n", 'desc = "x', "1: malformed line: desc: a quote isn't closed"),
+    ("ups", "[a]\n", 'desc = "x"y', "1: malformed line: desc: no blank follows a closing quote"),
+    ("ups", "[a]\n", "desc = x\\", "1: malformed line: desc: it ends in a backslash"),
+    ("ups", "[a]\n", "desc = \x01", "1: malformed line: desc: it has a control character"),
+    ("ups", "[a]\n", "desc = " + 2041 * "x", "1: malformed line: desc: it has more than 2047 bytes"),
+    ("ups", "[a]\n", 'desc = "x" # text', "1: malformed line: desc: a comment has a line of its own"),
+    ("ups", "", "[a]\r", "1: malformed line: [a]: it ends in CR LF: end lines in LF"),
+    ("ups", "", "\ufeff[a]", "1: malformed line: \\xef\\xbb\\xbf[a]: a byte order mark stands before it: take that out"),
+    ("ups", "", "desc = x", "2: setting outside of a section: desc"),
+    ("ups", "", "[a/b]", "3: bad name: [a/b]"),
+    ("ups", "[a]\n", "[a]", "4: duplicate: [a]"),
+    ("ups", "[a]\n", f"socket = {101 * 'x'}", "6: bad value: socket"),
+    ("users", "[a]\n", 'password="secret"', f"1: malformed line: password: {KEY}"),
+    ("users", "[a]\n", "password secret", f"1: malformed line: password: {KEY}"),
+    ("users", "[a]\n", "pasword = secret", "5: unknown key: pasword"),
+    ("users", "[a]\n", 'password = ""', "6: bad value: password"),
+    ("users", "[a]\n", "actions = SETT", "6: bad value: actions"),
+    ("vars", "", "VARDESC a b c", "1: malformed line: VARDESC a b c: write VARDESC or CMDDESC, a name, and a text in quotes"),
+    ("vars", "", 'VARDESC a/b "text"', '3: bad name: VARDESC a/b \\"text\\"'),
+]  # fmt: skip
+
+
+def remarked_so(option, before, line, remark):
+    path = BENCH.file("refused", (before + line).encode() + b"\n")
+    fault = f"upsd: {path}:{before.count(chr(10)) + 1}: cause {remark[0]}\nupsd: cause {remark}\n"
+    BENCH.faults_of_words(1, fault.encode(), "replay", f"--{option}", path, "/dev/null")
 
 
 for rows in sorted(glob.glob(f"{HERE}/answers/*.rows")):
@@ -121,4 +161,5 @@ for path in sorted(glob.glob(f"{HERE}/scripts/*.cases")):
 BENCH.case("bad_lines", bad_lines)
 BENCH.case("other_words", other_words)
 BENCH.case("files and their faults", each, ENDS, ends_so)
+BENCH.case("what is said of a refused line", each, REMARKS, remarked_so)
 BENCH.end()

@@ -76,13 +76,19 @@ def many_listed(count, size):
     return b"BEGIN LIST VAR su\n" + items + b"END LIST VAR su\n"
 
 
+KEY = "write key = value, with blanks around =, and a value with blanks in quotes"
+ENTRY = "write VARDESC or CMDDESC, a name, and a text in quotes"
+
+
 def words_and_files_are_reported_as_faults():
     ups, users = file("list", "[su]\nsocket = /run/nut/su\n"), path("users")
     files = ["--ups", ups, "--users", users]
     bad = file("bad", "nothing\n")
-    for listen in ["localhost:3493", "127.0.0.1", "127.0.0.1:65536", ""]:
-        fault = f"upsd: bad argument\nupsd: --listen {listen}: not an IP address and a port\n"
-        BENCH.faults_of_words(2, fault.encode(), "serve", *files, "--listen", listen)
+    for listen in ["localhost:3493", "3493", "127.0.0.1", "127.0.0.1:65536", ""]:
+        fault = f"upsd: bad argument\nupsd: --listen {listen}: not an IP address and a port, as 127.0.0.1:3493\n"
+        for first in [], ["--listen", "127.0.0.1:0"]:
+            BENCH.faults_of_words(2, fault.encode(), "serve", *files, *first, "--listen", listen)
+    BENCH.faults_of_words(2, b"upsd: bad argument\nupsd: --listen: at most 8 addresses\n", "serve", *files, *9 * ["--listen", "127.0.0.1:0"])
     for words in [["--maxage", "2"], ["--maxage", "86401"], ["--maxage", "x"], ["more"]]:
         status, out, faults = BENCH.ends("serve", *files, *words)
         assert (status, out, faults[:7]) == (2, b"", b"error: "), words
@@ -91,9 +97,9 @@ def words_and_files_are_reported_as_faults():
     missing = f"{absent}: cannot read\nupsd: {absent}: No such file or directory"
     # The first fault is reported, in the order of the words, the list, the users, the descriptions, the ids, the address.
     for words, fault in [
-            (["--ups", bad, "--users", absent], f"{bad}:1: cause 1\nupsd: cause 1: malformed line"),
+            (["--ups", bad, "--users", absent], f"{bad}:1: cause 1\nupsd: cause 1: malformed line: nothing: {KEY}"),
             (["--ups", ups, "--users", FOLDER], f"{FOLDER}: cannot read\nupsd: {FOLDER}: Is a directory"),
-            (["--ups", ups, "--users", users, "--vars", bad], f"{bad}:1: cause 1\nupsd: cause 1: malformed line"),
+            (["--ups", ups, "--users", users, "--vars", bad], f"{bad}:1: cause 1\nupsd: cause 1: malformed line: nothing: {ENTRY}"),
             (files + ["--ids", absent, "--listen", "192.0.2.1:1"], missing),
             (files + ["--listen", "192.0.2.1:1"], "cannot listen\nupsd: 192.0.2.1:1: Cannot assign requested address")]:
         BENCH.faults_of_words(1, f"upsd: {fault}\n".encode(), "serve", *words)
@@ -129,9 +135,9 @@ def dangers_of_the_files_are_warned_of():
     assert warned(ups, "--users", path("users")) == ([], 0)
     example = warned(ups, "--users", f"{HERE}/../examples/upsd.users")[0]
     assert sum(line.endswith(EXAMPLE) for line in example) == 2
-    # Of a file that is refused only the cause is reported.
+    # Of a file that is refused only that is reported.
     refused = file("refused", dangerous + "[d]\n")
-    BENCH.faults_of_words(1, f"upsd: {refused}:12: cause 4\nupsd: cause 4: duplicate\n".encode(), "serve", "--ups", path("list"), "--users", refused)
+    BENCH.faults_of_words(1, f"upsd: {refused}:12: cause 4\nupsd: cause 4: duplicate: [d]\n".encode(), "serve", "--ups", path("list"), "--users", refused)
 
 
 def what_the_files_lack_is_warned_of():
@@ -144,6 +150,9 @@ def what_the_files_lack_is_warned_of():
         warning = f"upsd: warning: {ids}: gives no id for a tracked order"
         assert warned(path("connected"), "--users", users, "--ids", ids) == ([warning], 1)
     assert warned(path("connected"), "--users", users, "--ids", "/dev/urandom") == ([], 0)
+    warning, limited = "upsd: warning: --record-limit: no file to record in", ["--record-limit", "1"]
+    assert warned(path("connected"), "--users", users, *limited) == ([warning], 1)
+    assert warned(path("connected"), "--users", users, *limited, "--record", path("recorded")) == ([], 0)
     # Only a replay of nothing judges the files.
     script = file("script", "tick 1\n")
     judged = subprocess.run([UPSD, "replay", "--ups", some, "--users", none, script], capture_output=True, text=True, check=True)

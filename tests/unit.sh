@@ -162,7 +162,7 @@ judge() {
 judge && rm upses.conf && judge && ok
 echo '[su' >upses.conf
 ! judge && [[ $(head -n 1 said) == "upsd: $folder/upses.conf:1: cause 1" ]] && rm upses.conf && ok
-echo here=1 >upsd.users && ! judge && [[ $(cat said) == "upsd: $folder/upsd.users:1: cause 1"$'\n'"upsd: cause 1: malformed line" ]] && ok
+echo here=1 >upsd.users && ! judge && [[ $(cat said) == "upsd: $folder/upsd.users:1: cause 1"$'\n'"upsd: cause 1: malformed line: here: write key = value, with blanks around =, and a value with blanks in quotes" ]] && ok
 rm upsd.users
 ! judge && [[ $(head -n 1 said) == "upsd: $folder/upsd.users: cannot read" ]] && grep -q '^SyslogIdentifier=upsd$' "$top/examples/voqarchay.service" && ok
 # The server takes the words of the unit's command, with the variables as they are, and as from_nut may set them.

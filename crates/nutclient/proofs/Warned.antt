@@ -1,6 +1,6 @@
 -- The warning after a text.
 use Rattle.std.proofs.Common.{◌≡◌, ◌++◌, ◌∷◌, ◌∙◌, ℕ, List, []}
-use Rattle.std.proofs.Common.{append_assoc, Bool, false, length, true}
+use Rattle.std.proofs.Common.{append_assoc, Bool, false, length}
 use Rattle.std.proofs.Common.{ap, refl, subst, sym}
 use Rattle.std.specs.Prelude.{◌==◌, ◌&&◌, codes, not}
 use Rattle.nutrequest.specs.declared.faults.ClientFault.TheVariants.{ErrWord}

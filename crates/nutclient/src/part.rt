@@ -1,6 +1,6 @@
 //! The words of a command line that aren't lawful, and what each has to be.
 ghost use Rattle.std.specs.Prelude.{◌≡◌, ◌≤◌, length};
-ghost use Rattle.nutclient.specs.Part.{name_of_part, rule_of, why_bad};
+ghost use Rattle.nutclient.specs.Part.{texts_of, why_bad};
 
 use crate::Program;
 use crate::limits::SHOWN_LIMIT;
@@ -45,44 +45,40 @@ impl Part {
         BadWord { part: self, shown }
     }
 
-    /// What the help calls it.
-    fn name(self) -> &'static str
-        ensures value { result.now ≡ name_of_part self }
-        ensures short { length result.now ≤ 10 }
+    /// What the help calls it, and what it has to be.
+    fn texts(self) -> (&'static str, &'static str)
+        ensures value { (result.0.now, result.1.now) ≡ texts_of self }
+        ensures name { length result.0.now ≤ 10 }
+        ensures rule { length result.1.now ≤ 100 }
     {
         match self {
-            Part::Forms(_) => "words",
-            Part::Ups => "UPS",
-            Part::Host => "host",
-            Part::Port => "port",
-            Part::Ipv6 => "address",
-            Part::Variable => "VAR",
-            Part::Command => "CMD",
-            Part::Id => "ID",
-            Part::Setting => "VAR=VALUE",
-            Part::Value => "VALUE",
-            Part::User => "USER",
-            Part::Password => "PASS",
-        }
-    }
-
-    /// What it has to be.
-    fn rule(self) -> &'static str
-        ensures value { result.now ≡ rule_of self }
-        ensures short { length result.now ≤ 100 }
-    {
-        match self {
-            Part::Forms(program) => program.forms(),
-            Part::Ups => "not 1 to 32 letters, digits, . - _",
-            Part::Host => "not 1 to 255 letters, digits, . and -",
-            Part::Port => "not 1 to 65535 without leading zeros",
-            Part::Ipv6 => "an IPv6 address needs a host name, as /etc/hosts gives one",
-            Part::Variable | Part::Command => "not 1 to 64 letters, digits, . - _",
-            Part::Id => "not one that --track printed",
-            Part::Setting => "not a name, = and a value of at most 512 bytes",
-            Part::Value => "not at most 512 bytes, none of them a control character",
-            Part::User => "not 1 to 64 bytes, none of them a control character",
-            Part::Password => "not 1 to 256 bytes, none of them a control character",
+            Part::Forms(program) => ("words", program.forms()),
+            Part::Ups => ("UPS", "not 1 to 32 letters, digits, . - _"),
+            Part::Host => ("host", "not 1 to 255 letters, digits, . and -"),
+            Part::Port => ("port", "not 1 to 65535 without leading zeros"),
+            Part::Ipv6 => (
+                "address",
+                "an IPv6 address needs a host name, as /etc/hosts gives one",
+            ),
+            Part::Variable => ("VAR", "not 1 to 64 letters, digits, . - _"),
+            Part::Command => ("CMD", "not 1 to 64 letters, digits, . - _"),
+            Part::Id => ("ID", "not one that --track printed"),
+            Part::Setting => (
+                "VAR=VALUE",
+                "not a name, = and a value of at most 512 bytes",
+            ),
+            Part::Value => (
+                "VALUE",
+                "not at most 512 bytes, none of them a control character",
+            ),
+            Part::User => (
+                "USER",
+                "not 1 to 64 bytes, none of them a control character",
+            ),
+            Part::Password => (
+                "PASS",
+                "not 1 to 256 bytes, none of them a control character",
+            ),
         }
     }
 }
@@ -94,13 +90,12 @@ impl BadWord {
         ensures short { length result.items ≤ 300 }
     {
         let mut why = Line::new();
-        why.try_extend_from_slice(self.part.name().as_bytes())
-            .unwrap();
+        let (name, rule) = self.part.texts();
+        why.try_extend_from_slice(name.as_bytes()).unwrap();
         why.try_extend_from_slice(self.shown.as_str().as_bytes())
             .unwrap();
         why.try_extend_from_slice(b": ").unwrap();
-        why.try_extend_from_slice(self.part.rule().as_bytes())
-            .unwrap();
+        why.try_extend_from_slice(rule.as_bytes()).unwrap();
         why
     }
 }

@@ -64,16 +64,7 @@ fn obey_read<C: Client>(rt: &HostRuntime, words: &[String]) -> u8
         (map string_bytes words.now) result }
     ensures most { result ≤ WORD_FAULT }
 {
-    end_by::<C>(rt, &matches_of::<C>(rt.alloc(), words))
-}
-
-/// Does what the parser found in the words, or prints what it says of them.
-fn end_by<C: Client>(rt: &HostRuntime, parsed: &Result<ArgMatches<'_>, Error>) -> u8
-    ensures status { MatchResult parsed.now (λ found. EndsAsAsked C.asks found result)
-        (λ error. EndsAsRefused error result) }
-    ensures most { result ≤ WORD_FAULT }
-{
-    match parsed {
+    match &matches_of::<C>(rt.alloc(), words) {
         Ok(found) => obey_system::<C>(rt, found),
         Err(error) => end(rt, C::PROGRAM, error),
     }

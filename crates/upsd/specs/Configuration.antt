@@ -16,6 +16,8 @@ use Rattle.upsd.specs.declared.ending.Ending.{Ending}
 use Rattle.upsd.specs.declared.ending.Ending.TheVariants as endings
 use Rattle.upsd.specs.declared.files.Configuration.{Configuration}
 use Rattle.upsd.specs.declared.files.Files.{Files}
+use Rattle.upsd.specs.declared.refused.Shape.{Shape}
+use Rattle.upsd.specs.declared.refused.Shape.TheVariants.{Sections, Table}
 use Rattle.upsd.specs.Ending.{EndsByRefusal}
 use Rattle.upsd.specs.Reading.{Readings, CantBeRead}
 
@@ -48,20 +50,20 @@ pub record AreMeant (gives : Readings) (files : Files) (c : Configuration) : Typ
 
 -- The ending says that the file of this path can't be read, or that its format refuses it, or that
 -- memory is refused.
-abbrev pub FailsBy : Readings → Format → (List ℕ → Bool) → Option (Bor (List ℕ)) → Ending → Type 0
-FailsBy gives format adds None ending = ending ≡ endings.Memory
-FailsBy gives format adds (Some path) ending = CantBeRead gives path ending
-    ⊎ ((bytes : List ℕ) × gives path.now (Ok bytes)
-    × EndsByRefusal format adds path (lines_of bytes) ending)
+abbrev pub FailsBy : Readings → Format → (List ℕ → Bool) → Shape → Option (Bor (List ℕ)) → Ending
+    → Type 0
+FailsBy gives format adds shape None ending = ending ≡ endings.Memory
+FailsBy gives format adds shape (Some path) ending = CantBeRead gives path ending
+    ⊎ ((file : List ℕ) × gives path.now (Ok file) × EndsByRefusal format adds shape path file ending)
 
 -- The ending is about the first of the files that fails; those before it mean something.
 abbrev pub FirstFails : Readings → Files → Ending → Type 0
-FirstFails gives files ending = FailsBy gives ups_format adds_ups files.ups ending
+FirstFails gives files ending = FailsBy gives ups_format adds_ups Sections files.ups ending
     ⊎ (((list : List Ups) × IsListOf gives files.ups list
-    × FailsBy gives users_format adds_to_users files.users ending)
+    × FailsBy gives users_format adds_to_users Sections files.users ending)
     ⊎ ((list : List Ups) × ((users : List User) × IsListOf gives files.ups list
     × AreUsersOf gives files.users users
-    × FailsBy gives descriptions_format adds_text files.vars ending)))
+    × FailsBy gives descriptions_format adds_text Table files.vars ending)))
 
 -- The server is a new one of what these files mean, with this greatest age.
 abbrev pub IsServerOf : Readings → Files → ℕ → RunningServer → Type 0

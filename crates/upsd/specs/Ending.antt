@@ -6,10 +6,14 @@ use Rattle.std.specs.Net.Text.{socket_text}
 use Rattle.std.specs.declared.net.socket_addr.SocketAddr.{SocketAddr}
 use denote.Ref.{Bor}
 use Rattle.nutio.specs.Ends.{WriteFailed, Written}
+use Rattle.nutwords.specs.Text.{lines_of}
 use Rattle.nutusers.specs.File.{Format, IsRefused}
 use Rattle.nutusers.specs.declared.fault.Cause.TheVariants as causes
 use Rattle.nutusers.specs.declared.fault.ConfFault.{ConfFault}
 use Rattle.upsd.specs.declared.ending.Ending.{Ending}
+use Rattle.upsd.specs.Refused.{IsRemark, line_at}
+use Rattle.upsd.specs.declared.refused.Remark.{Remark}
+use Rattle.upsd.specs.declared.refused.Shape.{Shape}
 use Rattle.upsd.specs.declared.task.Addresses.{Addresses}
 use Rattle.upsd.specs.declared.ending.Ending.TheVariants as endings
 use Rattle.upsd.specs.declared.ending.TheConstants.{DONE, FAULT, WORD_FAULT}
@@ -18,16 +22,18 @@ use Rattle.nutreplay.specs.declared.replaying.ReplayFault.{ReplayFault}
 use Rattle.nutreplay.specs.declared.replaying.ReplayFault.TheVariants as faults
 
 -- The ending for this refusal of the file: no memory where memory was refused, and nowhere else;
--- else the file's path, and the line and the cause of the refusal.
-pub record EndsByFault (path : Bor (List ℕ)) (fault : ConfFault) (ending : Ending) : Type 0 where
+-- else the file's path, the number of the refused line and the cause, and what is said of the line.
+pub record EndsByFault (path : Bor (List ℕ)) (shape : Shape) (file : List ℕ) (fault : ConfFault)
+    (ending : Ending) : Type 0 where
   pub memory : fault.cause ≡ causes.Memory → ending ≡ endings.Memory
-  pub line : fault.cause ≢ causes.Memory
-      → ending ≡ endings.Refused path fault.line fault.cause
+  pub line : fault.cause ≢ causes.Memory → (remark : Remark)
+      × IsRemark shape fault.cause (line_at file fault.line) remark
+      × (ending ≡ endings.Refused path fault.line fault.cause remark)
 
--- The ending for the refusal of a file with these lines.
-abbrev pub EndsByRefusal : Format → (List ℕ → Bool) → Bor (List ℕ) → List (List ℕ) → Ending → Type 0
-EndsByRefusal format adds path lines ending =
-    (fault : ConfFault) × IsRefused format adds lines fault × EndsByFault path fault ending
+-- The ending for the refusal of a file, which this format refuses.
+abbrev pub EndsByRefusal : Format → (List ℕ → Bool) → Shape → Bor (List ℕ) → List ℕ → Ending → Type 0
+EndsByRefusal format adds shape path file ending = (fault : ConfFault)
+    × IsRefused format adds (lines_of file) fault × EndsByFault path shape file fault ending
 
 -- How the program ends where its script isn't replayed.
 abbrev pub ending_of_replay : Bor (List ℕ) → ReplayFault → Ending
@@ -63,5 +69,5 @@ PrintsAddress contents failures address out result after = ⊥
 -- The status with which the program ends.
 abbrev pub status_of : Result (Unit {0}) Ending → ℕ
 status_of (Ok u) = DONE
-status_of (Err (endings.BadArgument address)) = WORD_FAULT
+status_of (Err (endings.BadArgument bad)) = WORD_FAULT
 status_of (Err _) = FAULT

@@ -1,3 +1,4 @@
+pub mod Refused
 pub mod Ending
 pub mod Reading
 pub mod Configuration

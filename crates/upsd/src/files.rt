@@ -11,6 +11,7 @@ ghost use Rattle.upsd.specs.Configuration.{IsListOf, AreUsersOf, AreDescriptions
 
 use crate::ending::{Ending, ending_of_file};
 use crate::reading::{FileReader, read};
+use crate::refused::Shape;
 use clap::ArgMatches;
 use nutcore::{Descriptions, MaxAge, Server, UpsList, Users};
 use nutwords::UpsName;
@@ -114,14 +115,15 @@ fn list_in<'a, R: FileReader>(
 ) -> Result<UpsList, Ending<'a>>
     ensures { MatchResult result
         (IsListOf (R.gives reader.now) path.entry)
-        (FailsBy (R.gives reader.now) ups_format adds_ups path.entry) }
+        (FailsBy (R.gives reader.now) ups_format adds_ups Shape.Sections path.entry) }
 {
     let Some(path) = path else {
         let su = UpsName::read(b"su").unwrap();
         return UpsList::one(alloc, su).map_err(|_| Ending::Memory);
     };
     let bytes = read(reader, path)?;
-    UpsList::read(alloc, &bytes).map_err(|fault| ending_of_file(path, fault))
+    let list = UpsList::read(alloc, &bytes);
+    list.map_err(|fault| ending_of_file(path, Shape::Sections, &bytes, fault))
 }
 
 /// The users that the file of this path means. Without a file there are none.
@@ -133,13 +135,14 @@ fn users_in<'a, R: FileReader>(
     ensures none { path.entry ≡ None → result ≡ Ok [] }
     ensures file { MatchResult result
         (AreUsersOf (R.gives reader.now) path.entry)
-        (FailsBy (R.gives reader.now) users_format adds_to_users path.entry) }
+        (FailsBy (R.gives reader.now) users_format adds_to_users Shape.Sections path.entry) }
 {
     let Some(path) = path else {
         return Ok(Users::none(alloc));
     };
     let bytes = read(reader, path)?;
-    Users::read(alloc, &bytes).map_err(|fault| ending_of_file(path, fault))
+    let users = Users::read(alloc, &bytes);
+    users.map_err(|fault| ending_of_file(path, Shape::Sections, &bytes, fault))
 }
 
 /// The descriptions that the file of this path means. Without a file there are none.
@@ -151,11 +154,12 @@ fn descriptions_in<'a, R: FileReader>(
     ensures none { path.entry ≡ None → result ≡ Ok no_descriptions }
     ensures file { MatchResult result
         (AreDescriptionsOf (R.gives reader.now) path.entry)
-        (FailsBy (R.gives reader.now) descriptions_format adds_text path.entry) }
+        (FailsBy (R.gives reader.now) descriptions_format adds_text Shape.Table path.entry) }
 {
     let Some(path) = path else {
         return Ok(Descriptions::none(alloc));
     };
     let bytes = read(reader, path)?;
-    Descriptions::read(alloc, &bytes).map_err(|fault| ending_of_file(path, fault))
+    let descriptions = Descriptions::read(alloc, &bytes);
+    descriptions.map_err(|fault| ending_of_file(path, Shape::Table, &bytes, fault))
 }

@@ -16,13 +16,14 @@ mod ending;
 mod files;
 mod laws;
 mod reading;
+mod refused;
 mod replaying;
 mod serve;
 mod starting;
 mod task;
 mod warnings;
 
-use crate::ending::{Ending, print_ending, status_of};
+use crate::ending::{BadWord, Ending, print_ending, status_of};
 use crate::files::Configuration;
 use crate::replaying::replay_files;
 use crate::serve::serve_files;
@@ -40,11 +41,12 @@ use nutcore::{MAX_AGE_LEAST, MAX_AGE_MOST};
 use nutio::CountedWriter;
 use std::alloc::{AllocError, Global};
 use std::io;
+use std::net::SocketAddr;
 use std::process::ExitCode;
 
 fn main(rt: HostRuntime) -> ExitCode {
     hold_standard_streams(&rt);
-    let words = match words_of(&rt, Ending::BadArgument(None), Ending::Memory) {
+    let words = match words_of(&rt, Ending::BadArgument(BadWord::NoText), Ending::Memory) {
         Ok(words) => words,
         Err(ending) => return finish(&rt, &Err(ending), is_terminal(&rt)),
     };
@@ -141,16 +143,20 @@ fn end(rt: &HostRuntime, error: &Error) -> ExitCode
 /// Does what the words ask for.
 fn run<'a>(rt: &HostRuntime, matches: &ArgMatches<'a>) -> Result<(), Ending<'a>>
     ensures unnamed { subcommand_name_of matches.now ≡ None
-        → result ≡ Err (Ending.BadArgument None) }
+        → result ≡ Err (Ending.BadArgument BadWord.NoText) }
     // Nothing that is to be done is refused as a bad argument.
-    ensures refused { (address : _) → result ≡ Err (Ending.BadArgument address)
+    ensures refused { (bad : _) → result ≡ Err (Ending.BadArgument bad)
         → AsksNothing matches.now }
 {
     let Some((name, found)) = matches.subcommand() else {
-        return Err(Ending::BadArgument(None));
+        return Err(Ending::BadArgument(BadWord::NoText));
     };
     match task_of(name, found) {
-        Some(Task::Serve(files, service)) => serve_files(rt, files, &service),
+        Some(Task::Serve(files, service)) => {
+            let priorities = service.priorities;
+            Warner { rt, priorities }.warn_of_limit(files, found.contains_id("record-limit"));
+            serve_files(rt, files, &service)
+        }
         Some(Task::Replay(files, script)) => {
             let mut out = CountedWriter::new(io::writer(rt));
             // This script only has the files judged.
@@ -165,7 +171,19 @@ fn run<'a>(rt: &HostRuntime, matches: &ArgMatches<'a>) -> Result<(), Ending<'a>>
             };
             replay_files(rt.alloc(), rt, files, script, &mut out, judge)
         }
-        None => Err(Ending::BadArgument(found.get_str("listen"))),
+        None => Err(Ending::BadArgument(bad_address(found))),
+    }
+}
+
+/// What is wrong with the addresses after `--listen`.
+fn bad_address<'a>(found: &ArgMatches<'a>) -> BadWord<'a> {
+    let texts = found.get_strs("listen").unwrap_or(&[]);
+    match texts
+        .iter()
+        .find(|text| text.parse::<SocketAddr>().is_err())
+    {
+        Some(text) => BadWord::Address(text),
+        None => BadWord::Addresses,
     }
 }
 

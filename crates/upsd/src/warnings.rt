@@ -61,6 +61,12 @@ impl Warner<'_> {
         self.warn_if(true, path, &warning);
     }
 
+    /// Warns of a limit of the record where none is wanted.
+    pub fn warn_of_limit(self, files: Files<'_>, has_limit: bool) {
+        let is_idle = has_limit && files.to_record.is_none();
+        self.warn_if(is_idle, "--record-limit", &"no file to record in");
+    }
+
     /// Warns of a user. The passwords of the example are those of examples/upsd.users.
     fn warn_of_user(self, path: &str, user: &User) {
         let (name, password) = (user.name().escape_ascii(), user.password());
@@ -71,7 +77,7 @@ impl Warner<'_> {
         );
         let known = matches!(password, Some(b"change-me" | b"change-me-too"));
         note(known, "a password of the example, which everybody knows");
-        let small = user.grants().iter().any(is_small_all);
+        let small = user.grants().iter().any(is_all_in_small_letters);
         note(small, "only ALL grants every command");
         let unset = password.is_none();
         note(unset, "a user without a password, who may do nothing");
@@ -86,6 +92,6 @@ impl Warner<'_> {
 }
 
 /// It is `ALL`, but not in capitals: a command of that name.
-fn is_small_all(grant: &Grant) -> bool {
+fn is_all_in_small_letters(grant: &Grant) -> bool {
     matches!(grant, Grant::Command(name) if is_word(name.as_bytes(), b"ALL"))
 }
