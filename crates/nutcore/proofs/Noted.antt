@@ -20,7 +20,8 @@ use Rattle.nutcore.proofs.Common.{ServerState, session, ups_at}
 use Rattle.nutcore.specs.declared.note.DataState.{DataState}
 use Rattle.nutcore.specs.declared.note.DataState.TheVariants as states
 use Rattle.nutcore.specs.declared.note.Note.{Note}
-use Rattle.nutcore.specs.declared.note.Note.TheVariants.{Data, StatusChanged, LineRefused, OrderEnded, LoggedIn, LoggedOut, Did}
+use Rattle.nutcore.specs.declared.note.Note.TheVariants.{Data, StatusChanged, LineRefused}
+use Rattle.nutcore.specs.declared.note.Note.TheVariants.{OrderEnded, LoggedIn, LoggedOut, Did}
 use Rattle.nutcore.specs.declared.note.Deed.{Deed}
 use Rattle.nutcore.specs.declared.note.TheConstants.{SHOWN_LIMIT}
 use Rattle.nutcore.specs.History.{Execution, of_line, of_notice, client_of}

@@ -183,7 +183,12 @@ if_done c s t xs false logs = refl
 
 -- in each event
 blind : (c : ℕ) (v : UpsId) → IsBlind (login_in c) v
-blind c v = record { state = λ state. refl; status = λ status. refl; refused = λ fault shown. refl; ended = λ id number. refl }
+blind c v = record {
+  state = λ state. refl;
+  status = λ status. refl;
+  refused = λ fault shown. refl;
+  ended = λ id number. refl;
+}
 
 pub event_logs : (c : ℕ) (s : ServerState) (e : Event) (o : Outcome) →
     Logs c s (all_notes s e (refused_after o)) (after s e o)

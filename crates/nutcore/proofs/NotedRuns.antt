@@ -26,7 +26,12 @@ no_deed : (x : SessionState) → option_and_then deed_in (logout_of x) ≡ None
 no_deed x = grind arith
 
 blind : (v : UpsId) → IsBlind deed_in v
-blind v = record { state = λ state. refl; status = λ status. refl; refused = λ fault shown. refl; ended = λ id number. refl }
+blind v = record {
+  state = λ state. refl;
+  status = λ status. refl;
+  refused = λ fault shown. refl;
+  ended = λ id number. refl;
+}
 
 event_does : (s : ServerState) (e : Event) (m : Option ℕ) →
     filter_map deed_in (all_notes s e m) ≡ filter_map deed_in (notes_of_lines (executions_by s e m))

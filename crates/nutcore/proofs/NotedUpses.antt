@@ -39,7 +39,8 @@ use Rattle.nutcore.specs.DriverHistory.{heard_at, heard_in_event}
 use Rattle.nutcore.specs.DriverRuns.{report_of}
 use Rattle.nutcore.specs.Sound.{IsSoundUps, IsSound}
 use Rattle.nutcore.specs.Notes.{who_of, logout_of, note_of, notes_of_lines}
-use Rattle.nutcore.specs.Notes.{data_state_of, status_of, fault_of, outcome_note, end_note, shown_of, status_note, data_note}
+use Rattle.nutcore.specs.Notes.{data_state_of, status_of, fault_of, outcome_note, end_note}
+use Rattle.nutcore.specs.Notes.{shown_of, status_note, data_note}
 use Rattle.nutcore.specs.Notes.{line_notes, texts_notes, loss_notes, is_lost_by, text_notes, connect_notes, bytes_notes}
 use Rattle.nutcore.specs.Notes.{down_notes, of_ups_notes, tick_note, tick_notes, all_notes}
 use Rattle.nutcore.specs.NotedRuns.{Leads, data_in, status_in, fault_in, faults_among}

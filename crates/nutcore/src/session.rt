@@ -227,6 +227,8 @@ impl Session {
     /// Takes the next line, which ends there, joins its answer to what is owed, and does what that
     /// changes of the session. The clients in the scratch are those that the answer lists. Takes no
     /// memory.
+    // Both calls are on the way of each line.
+    #[inline(always)]
     #[tactic(auto, using(crate::proofs::Pumping::taking))]
     pub(crate) fn answer(&mut self, reply: Reply<'_>, end: usize, scratch: &mut Scratch)
         requires going { option_map length (next_line self.old) ≡ Some end }
