@@ -1,8 +1,6 @@
-use Rattle.std.proofs.Common.{rules, ◌≡◌, ◌∷◌, [], ℕ, List, Bor, Option, Some, None, refl, ap, unwrap_or}
-use Rattle.std.proofs.Common.{◌∙◌, sym}
+use Rattle.std.proofs.Common.{◌≡◌, ap, Bor, List, None, Option, refl, Some, unwrap_or, ℕ}
 use Rattle.std.specs.Option.{option_map}
 use Rattle.std.proofs.lemmas.Iterator.Consumers.{YieldsList-from_first, nth_from_yields_List}
-use Rattle.upsd.specs.Refused.{line_at}
 use Rattle.upsd.proofs.refused.line_at.Goals as goal
 
 now_of : (r : Option (Bor (List ℕ))) (d x : Bor (List ℕ)) → x ≡ unwrap_or r d
@@ -13,6 +11,6 @@ now_of (Some y) d x e = ap (λ y. y.now) e
 pub returns : goal.returns
 returns c =
     let there = nth_from_yields_List c.nth.result c.nth.new.self c.saturating_sub.result c.nth.ensures.ran
-        (YieldsList-from_first (λ x. x.now) (λ lines. lines) c.of.result refl) in
+    (YieldsList-from_first (λ x. x.now) (λ lines. lines) c.of.result refl) in
     let given = now_of c.nth.result _ c.unwrap_or.result c.unwrap_or.ensures in
     cc
