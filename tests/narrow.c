@@ -14,7 +14,7 @@
  * WRITABLE: how often poll finds that a socket takes bytes. A connection that begins is found so once.
  * LATER: by how many seconds the clock goes forward when events are waited for first.
  * CLOCK: a file that says by how many milliseconds the clock is forward.
- * ELSEWHERE: who is accepted from 127.7.0.0/16 comes from 10.7.0.0/16.
+ * ELSEWHERE: who is accepted from 127.7.0.0/16 comes from 10.7.0.0/16, and from 127.8.0.0/16 from 2001:db8:0:1::/64.
  * BUFFER: how many bytes the system keeps for an accepted connection.
  */
 #define _GNU_SOURCE
@@ -161,8 +161,17 @@ int accept4(int door, struct sockaddr *from, socklen_t *length, int flags)
         setsockopt(wire, SOL_SOCKET, SO_SNDBUF, &buffer, sizeof buffer);
     if (wire >= 0 && getenv("ELSEWHERE") && from->sa_family == AF_INET) {
         struct sockaddr_in *peer = (struct sockaddr_in *)from;
-        if (ntohl(peer->sin_addr.s_addr) >> 16 == (127 << 8 | 7))
-            peer->sin_addr.s_addr = htonl(10u << 24 | (ntohl(peer->sin_addr.s_addr) & 0xffffff));
+        uint32_t address = ntohl(peer->sin_addr.s_addr);
+        if (address >> 16 == (127 << 8 | 7))
+            peer->sin_addr.s_addr = htonl(10u << 24 | (address & 0xffffff));
+        if (address >> 16 == (127 << 8 | 8)) {
+            struct sockaddr_in6 other = {.sin6_family = AF_INET6, .sin6_port = peer->sin_port};
+            char text[40];
+            snprintf(text, sizeof text, "2001:db8:0:1::%x", address & 0xffff);
+            inet_pton(AF_INET6, text, &other.sin6_addr);
+            *(struct sockaddr_in6 *)from = other;
+            *length = sizeof other;
+        }
     }
     return wire;
 }

@@ -268,6 +268,22 @@ def several_addresses_are_listened_at():
     assert BENCH.ends(*words, *listens, "--listen", "127.0.0.1:0")[0] == 2
 
 
+def clients_of_one_network_share_a_count():
+    """Of 70 addresses of a /64 (IPv6) eight lines are logged in a second. A client of another network has its own."""
+    with begun() as (server, *_):
+        for number in range(1, 71):
+            client = server.client(f"127.8.0.{number}")
+            assert client.ask(b"LOGIN su\n" * 2).count(b"ERR ") == 2
+            client.close()
+        assert server.client(ELSEWHERE.format(9)).ask(b"LOGIN su\n").startswith(b"ERR ")
+        logged(server, "su: 10.7.0.9 was refused LOGIN: USERNAME-REQUIRED")
+        go_to(70)
+        logged(server, r"more lines of 2001:0db8:0000:0001::/64: \d+ refused LOGIN")
+        named = len(re.findall("2001:db8:0:1::[0-9a-f]+ was refused LOGIN", server.journal()))
+        counted = map(int, re.findall(r"0001::/64: (\d+) refused LOGIN", server.journal()))
+        assert named <= 20 and named + sum(counted) == 140, server.journal()
+
+
 def words_are_within_their_limits():
     words = ["serve", "--ups", os.path.join(FOLDER, "list"), "--users", os.path.join(FOLDER, "users")]
     BENCH.file("list", b"[su]\n")

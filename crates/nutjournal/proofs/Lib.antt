@@ -5,3 +5,4 @@ pub mod Calls
 pub mod Written
 pub mod Runs
 pub mod FirstOrders
+pub mod Segments

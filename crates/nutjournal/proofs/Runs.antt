@@ -16,6 +16,7 @@ use Rattle.nutjournal.specs.declared.tally.Tally.{Tally}
 use Rattle.nutjournal.specs.Calls.{Begins, IsCall, dues_of_call, tally_places}
 use Rattle.nutjournal.specs.Lines.{DuesMore, Line, after_due, after_dues, due_now}
 use Rattle.nutjournal.specs.LogBuffer.{Place}
+use Rattle.nutjournal.specs.Network.{network_of}
 use Rattle.nutjournal.specs.Runs as groups
 use Rattle.nutjournal.specs.Runs.{Call, Group, HasPriority, IsSlot, LoggedAndCountedAreAll, Run, Slot, begins}
 use Rattle.nutjournal.specs.Runs.{counts_for, dues, in_run, is_logged_for, note_places, reported_in, run_places}
@@ -137,12 +138,12 @@ one_line groups.clients i kind (of_order deed) next all is few =
 one_line groups.upses i kind (of_refused deed) next all is few = elsewhere _ i kind (is_same kind next) _ is.within is.size
 one_line groups.users i kind (of_refused deed) next all is few = elsewhere _ i kind (is_same kind next) _ is.within is.size
 one_line groups.clients i kind (of_refused deed) next all is few =
-    one_in all.clients.tallies i (place_of deed.who.address all.clients.addresses.items) (has_refusal_room all)
+    one_in all.clients.tallies i (place_of (network_of deed.who.address) all.clients.addresses.items) (has_refusal_room all)
     kind next is.within is.size few
 one_line groups.upses i kind (of_client address) next all is few = elsewhere _ i kind (is_same kind next) _ is.within is.size
 one_line groups.users i kind (of_client address) next all is few = elsewhere _ i kind (is_same kind next) _ is.within is.size
 one_line groups.clients i kind (of_client address) next all is few =
-    one_in all.clients.tallies i (place_of address all.clients.addresses.items) (has_refusal_room all)
+    one_in all.clients.tallies i (place_of (network_of address) all.clients.addresses.items) (has_refusal_room all)
     kind next is.within is.size few
 
 -- Lines one after another.

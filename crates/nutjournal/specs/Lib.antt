@@ -1,4 +1,5 @@
 pub mod Tally
+pub mod Network
 pub mod Tallies
 pub mod LogBuffer
 pub mod Drivers

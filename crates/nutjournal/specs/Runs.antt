@@ -16,6 +16,7 @@ use Rattle.nutjournal.specs.declared.tally.Tally.{Tally}
 use Rattle.nutjournal.specs.Calls.{IsCall, dues_of_call, tally_places}
 use Rattle.nutjournal.specs.Lines.{Line, after_due, after_dues, due_now}
 use Rattle.nutjournal.specs.LogBuffer.{Place}
+use Rattle.nutjournal.specs.Network.{network_of}
 use Rattle.nutjournal.specs.Tallies.{Whose, of_client, of_order, of_refused, of_ups, of_user}
 use Rattle.nutjournal.specs.Tallies.{after_second_of, fresh, is_fsd, is_line_logged, is_order_of, order_of, place_of, ups_of}
 use Rattle.nutjournal.specs.Tally.{begins_minute, count, is_reported, is_same, one_if}
@@ -77,9 +78,9 @@ slot_of (of_user u who) all =
 slot_of (of_order deed) all =
     record { group = users; place = place_of deed.who.address all.users.addresses.items }
 slot_of (of_refused deed) all =
-    record { group = clients; place = place_of deed.who.address all.clients.addresses.items }
+    record { group = clients; place = place_of (network_of deed.who.address) all.clients.addresses.items }
 slot_of (of_client address) all =
-    record { group = clients; place = place_of address all.clients.addresses.items }
+    record { group = clients; place = place_of (network_of address) all.clients.addresses.items }
 
 -- A line of a kind comes for a tally, and is logged.
 abbrev pub counts_for : Slot → Kind → Line → Tallies → Bool

@@ -1,5 +1,5 @@
 -- The lines of a second, by what they are of.
-use Rattle.std.specs.Prelude.{◌≡◌, ℕ, ◌+◌, ◌++◌, ◌<◌, take, drop, Bool, false, true, map, List, []}
+use Rattle.std.specs.Prelude.{ℕ, ◌+◌, ◌++◌, take, drop, Bool, false, true, map, List, []}
 use Rattle.std.specs.Prelude.{◌∷◌, if◌then◌else◌, ◌==◌, ◌&&◌, ◌||◌, not, nat_lt, length, slice_get}
 use Rattle.std.specs.Prelude.{slice_set, unwrap_or, Option, Some, None, option_map}
 use Rattle.std.specs.List.{list_any, position_or_len}
@@ -19,6 +19,7 @@ use Rattle.nutjournal.specs.declared.tallies.Of.{Of}
 use Rattle.nutjournal.specs.declared.tallies.Of.TheVariants as whose
 use Rattle.nutjournal.specs.declared.tallies.Tallies.{Tallies}
 use Rattle.nutjournal.specs.declared.tallies.TheConstants.{ADDRESS_COUNT, ORDER_COUNT, REFUSAL_LIMIT}
+use Rattle.nutjournal.specs.Network.{network_of}
 use Rattle.nutjournal.specs.Tally.{after_line, after_second, is_logged, nothing}
 
 abbrev pub fresh : Tally
@@ -107,7 +108,7 @@ is_order_logged deed kind all =
 
 abbrev pub is_client_logged : List ℕ → Kind → Tallies → Bool
 is_client_logged address kind all =
-    is_logged (has_refusal_room all) (tally_of_address address all.clients) kind
+    is_logged (has_refusal_room all) (tally_of_address (network_of address) all.clients) kind
 
 -- What a line leaves: it counts for its UPS or its address. The first order of its kind is kept.
 abbrev pub after_ups : ℕ → Kind → Tallies → Tallies
@@ -126,7 +127,7 @@ after_order deed kind all =
 abbrev pub after_client : List ℕ → Kind → Tallies → Tallies
 after_client address kind all =
     record all {
-      clients = after_address (has_refusal_room all) address kind all.clients;
+      clients = after_address (has_refusal_room all) (network_of address) kind all.clients;
       refusals = if is_client_logged address kind all then all.refusals + 1 else all.refusals;
     }
 
@@ -192,13 +193,3 @@ after_second_of count is_minute all = record {
   orders = record { items = [] };
   refusals = 0;
 }
-
--- Whatever came before, each order that is the first of its second is logged, up to 64 different
--- ones, and a forced shutdown beyond them.
-pub record FirstOrdersAreLogged : Type 0 where
-  pub first : (deed : Deed) (kind : Kind) (all : Tallies)
-      → is_known deed all.orders.items ≡ false → length all.orders.items < ORDER_COUNT
-      → is_order_logged deed kind all ≡ true
-  pub shutdown : (deed : Deed) (kind : Kind) (all : Tallies)
-      → is_known deed all.orders.items ≡ false → is_fsd deed.verb ≡ true
-      → is_order_logged deed kind all ≡ true

@@ -1,7 +1,6 @@
 //! The numbers of the journal, and what it logs and counts.
 ghost use Rattle.std.specs.Prelude.{◌≡◌};
 ghost use Rattle.nutjournal.specs.Runs.{EachOrderHasItsLine, LoggedAndCountedAreAll};
-ghost use Rattle.nutjournal.specs.Tallies.{FirstOrdersAreLogged};
 ghost use Rattle.nutjournal.specs.Tally.{EachLineIsLoggedOrCounted, MinutesAreApart};
 ghost use Rattle.nutjournal.specs.Written.{WhatIsQueuedIsWritten};
 ghost use Rattle.nutjournal.specs.declared.log_buffer.TheConstants.{LOG_LIMIT, RESERVE};
@@ -37,12 +36,6 @@ pub fn each_line_is_logged_or_counted()
 /// second.
 pub fn minutes_are_apart()
     ensures { MinutesAreApart }
-{}
-
-/// Whatever others do, each first order of a user at a UPS has its line in its second: of 64
-/// different ones, and each forced shutdown beyond them.
-pub fn first_orders_are_logged()
-    ensures { FirstOrdersAreLogged }
 {}
 
 /// Logged and counted together are all. In a run of the journal's calls, for each tally of a UPS or

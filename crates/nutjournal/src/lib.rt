@@ -7,6 +7,7 @@ mod drivers;
 mod journal;
 pub mod laws;
 mod log_buffer;
+mod network;
 mod refusals;
 mod tallies;
 mod tally;

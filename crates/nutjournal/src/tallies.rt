@@ -4,6 +4,7 @@ ghost use Rattle.std.specs.List.{list_any};
 ghost use Rattle.nutjournal.specs.Tally.{after_second, has_more, is_logged};
 ghost use Rattle.nutjournal.specs.Tallies.{after_address, after_client, after_line_of, after_second_of, clients_after_second, is, is_client_logged, is_first_order, is_known, is_line_logged, is_order_of, order_of, place_of, tally_of_address, ups_of, whose_of, with_address, with_order};
 
+use crate::network::network_of;
 use crate::tally::{Kind, Tally};
 use arrayvec::ArrayVec;
 use nutcore::{Deed, UpsId, UpsList, Verb, Who};
@@ -104,14 +105,14 @@ impl Tallies {
         }
     }
 
-    /// Whether a line is logged of what any client of the address may cause: at most 30 of all
-    /// addresses in a second. If not, it is counted.
+    /// Whether a line is logged of what any client of the address's network may cause: at most 30
+    /// of all networks in a second. If not, it is counted.
     fn takes_of_client(&mut self, address: &Address, kind: Kind) -> bool
         ensures logged { result ≡ is_client_logged address.now kind self.old }
         ensures after { self.new ≡ after_client address.now kind self.old }
     {
         let has_room = self.refusals < REFUSAL_LIMIT;
-        let is_logged = self.clients.takes(address, kind, has_room);
+        let is_logged = self.clients.takes(&network_of(address), kind, has_room);
         if is_logged {
             self.refusals += 1;
         }
